@@ -1,0 +1,8 @@
+pub mod Tells
+pub mod Bits
+pub mod Canonical
+pub mod Paging
+pub mod Flags
+pub mod BitsLaws
+pub mod CanonicalLaws
+pub mod FlagsLaws

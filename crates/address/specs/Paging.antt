@@ -1,0 +1,25 @@
+-- Pages and frames of 4,096 bytes.
+use mathlib.Core.Path.{_≡_}
+use mathlib.Core.Bool.{Bool}
+use Prim.Native.Nat.{ℕ, _*_, _/_, _%_, _^_, _≤_, _<_, _+_}
+use native.Mathlib.Omega.{arith}
+use lib.Dec.{eqb}
+
+-- document 01, "Numbers": "A page is 4,096 bytes"; the page or frame that holds a byte
+abbrev pub pageOf : ℕ → ℕ
+pageOf a = a / 4096
+
+-- the first byte of a page or frame; there are 2^52 of them in 64 bits
+abbrev pub startOf : ℕ → ℕ
+startOf n = n % 2 ^ 52 * 4096
+
+abbrev pub aligned : ℕ → Bool
+aligned a = eqb (a % 4096) 0
+
+-- the page of an address starts at or below it, and ends above it
+pub start-below : (a : ℕ) → a < 2 ^ 64 → (startOf (pageOf a) ≤ a) × (a < startOf (pageOf a) + 4096)
+start-below a h = (omega arith, omega arith)
+
+-- the page of a page's first byte is the page
+pub page-of-start : (n : ℕ) → n < 2 ^ 52 → pageOf (startOf n) ≡ n
+page-of-start n h = omega arith
