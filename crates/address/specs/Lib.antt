@@ -1,3 +1,4 @@
+-- The rooms of the definitions and laws: docs/ARCHITECTURE.md says which to read.
 pub mod Tells
 pub mod Bits
 pub mod Canonical

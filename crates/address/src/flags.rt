@@ -1,6 +1,7 @@
 // The page table flags that document 01 names, and no others.
 ghost use mathlib.Core.Path.{_≡_};
-ghost use Rattle.address.specs.Flags.{Contains, Without, checkedFlags};
+ghost use Rattle.address.specs.Bits.{has};
+ghost use Rattle.address.specs.Flags.{Contains, Without, checkedFlags, readOnly, present, writable, userAccessible, noExecute};
 ghost use Rattle.address.specs.Tells.{Tells};
 
 // Flag bits of a page table entry.
@@ -49,5 +50,40 @@ impl PageTableFlags {
         ensures { λ r. ⌜ Without (self .0) (other .0) (r .0) ⌝ }
     {
         PageTableFlags(self.0 ^ (self.0 & other.0))
+    }
+
+    // Whether the page may be used at all.
+    pub fn is_present(self) -> bool
+        ensures { λ r. ⌜ r ≡ has (self .0) present ⌝ }
+    {
+        self.contains(PageTableFlags::PRESENT)
+    }
+
+    // Whether stores are allowed.
+    pub fn is_writable(self) -> bool
+        ensures { λ r. ⌜ r ≡ has (self .0) writable ⌝ }
+    {
+        self.contains(PageTableFlags::WRITABLE)
+    }
+
+    // Whether a process may use the page, and not the kernel alone.
+    pub fn is_user_accessible(self) -> bool
+        ensures { λ r. ⌜ r ≡ has (self .0) userAccessible ⌝ }
+    {
+        self.contains(PageTableFlags::USER_ACCESSIBLE)
+    }
+
+    // Whether instructions may not be fetched.
+    pub fn is_no_execute(self) -> bool
+        ensures { λ r. ⌜ r ≡ has (self .0) noExecute ⌝ }
+    {
+        self.contains(PageTableFlags::NO_EXECUTE)
+    }
+
+    // These flags, WRITABLE off.
+    pub fn read_only(self) -> PageTableFlags
+        ensures { λ r. ⌜ r .0 ≡ readOnly (self .0) ⌝ }
+    {
+        self.without(PageTableFlags::WRITABLE)
     }
 }

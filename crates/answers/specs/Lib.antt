@@ -1,1 +1,2 @@
+-- The rooms of the definitions and laws: docs/ARCHITECTURE.md says which to read.
 pub mod Number

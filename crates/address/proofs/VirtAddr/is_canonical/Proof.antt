@@ -1,3 +1,4 @@
+-- `VirtAddr::is_canonical` tells canonical form, on either side of the comparison.
 use native.Mathlib.Omega.{arith}
 use Rattle.address.specs.CanonicalLaws.{canonical-low, canonical-else}
 use Rattle.address.proofs.VirtAddr.is_canonical.Statement.{statement}

@@ -1,3 +1,4 @@
+-- `VirtAddr::try_new` is checkedAddr.
 use Rattle.address.specs.CanonicalLaws.{addr-good, addr-bad}
 use borrow.Author.Needs.{needs}
 use Rattle.address.proofs.VirtAddr.try_new.Statement.{statement}

@@ -1,3 +1,4 @@
+-- `Refusal::number` is numberOf: one line a variant.
 use mathlib.Core.Path.{ap, sym}
 use Rattle.answers.specs.Number.{numberOf}
 use borrow.Author.Needs.{needs}

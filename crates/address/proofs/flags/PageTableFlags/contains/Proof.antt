@@ -1,3 +1,4 @@
+-- `PageTableFlags::contains` tells that every bit is set.
 use native.Mathlib.Omega.{arith}
 use Rattle.address.specs.FlagsLaws.{contains-tells}
 use Rattle.address.proofs.flags.PageTableFlags.contains.Statement.{statement}

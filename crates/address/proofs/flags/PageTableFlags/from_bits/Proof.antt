@@ -1,3 +1,4 @@
+-- `PageTableFlags::from_bits` is checkedFlags: one law a way.
 use borrow.Author.Tests.{not-true, not-false}
 use native.Mathlib.Omega.{arith}
 use Rattle.address.specs.FlagsLaws.{flags-good, flags-absent, flags-outside}

@@ -1,3 +1,4 @@
+-- `PageTableFlags::without` takes the bits off.
 use Rattle.address.specs.FlagsLaws.{without-each}
 use Rattle.address.proofs.flags.PageTableFlags.without.Statement.{statement}
 use Rattle.address.proofs.flags.PageTableFlags.without.Tie as tie

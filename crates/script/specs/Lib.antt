@@ -1,0 +1,3 @@
+-- The definitions of the program, and what its proofs cite.
+pub mod Few
+pub mod Session

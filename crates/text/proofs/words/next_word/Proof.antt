@@ -1,0 +1,26 @@
+use Rattle.text.specs.WordsLaws.{word-at}
+use borrow.Author.Needs.{needs}
+use Rattle.text.proofs.words.next_word.Statement.{statement}
+use Rattle.text.proofs.words.next_word.Tie as tie
+use Rattle.text.proofs.words.next_word.Reads as reads
+use Rattle.text.proofs.words.next_word.Lts as lts
+use Rattle.text.proofs.words.blanks_end.Reads as blanks-end-reads
+use Rattle.text.proofs.words.word_end.Reads as word-end-reads
+
+-- src/words.rt:21:9
+blanks-end-requires : tie.Need-blanks-end-requires
+blanks-end-requires c κs = search needs
+
+-- src/words.rt:24:13
+word-end-requires : tie.Need-word-end-requires
+word-end-requires c κs = search needs
+
+-- src/words.rt:16:1
+returns : tie.Need-returns
+returns c =
+    let a = c .before .before .before .args in
+    let b = c .before .blanks-end in
+    (word-at (a .line .now) (a .at) (b .result) (c .word-end .result) (b .ensures .0) (c .word-end .ensures .0), (c .word-end .ensures .1 .0, c .word-end .ensures .1 .1))
+
+pub next-word-spec : {M : Type 1} → statement M
+next-word-spec = tie.close (tie.spec blanks-end-requires word-end-requires returns)
