@@ -1,0 +1,150 @@
+// The rows of the machine's tables and the answers of its calls. What they mean stands in specs/.
+use address::Page;
+use address::PageTableFlags;
+use address::PhysFrame;
+use address::VirtAddr;
+use answers::Refusal;
+
+// One of the 8 processes: whether it is open, its arena, and how many rows of its lists are in use.
+pub struct Process {
+    pub opened: u64,
+    pub start: VirtAddr,
+    pub size: u64,
+    pub attached: u64,
+    pub mapped: u64,
+}
+
+// A region slot. Kind 0 free, 1 Private, 2 FileBacked, 3 Shared; fork 0 CopyOnWrite, 1 CopyEager;
+// ranged 1 where it has a range, whose backing's first frame is `range`.
+pub struct Region {
+    pub kind: u64,
+    pub start: VirtAddr,
+    pub size: u64,
+    pub flags: PageTableFlags,
+    pub fork: u64,
+    pub per_thread: u64,
+    pub pins: u64,
+    pub file: u64,
+    pub offset: u64,
+    pub length: u64,
+    pub ranged: u64,
+    pub range: PhysFrame,
+}
+
+// A page table entry: the flat model keeps a process's in page order.
+pub struct Mapping {
+    pub page: Page,
+    pub frame: PhysFrame,
+    pub flags: PageTableFlags,
+}
+
+// A page entry: the page of a region that has a frame of its own. Owner 0 free, else the region's row plus 1.
+pub struct Entry {
+    pub owner: u64,
+    pub page: Page,
+    pub frame: PhysFrame,
+}
+
+// The backing whose first frame is the row's number: its length in frames (0: none starts here) and its holders.
+pub struct Backing {
+    pub len: u64,
+    pub holders: u64,
+}
+
+// The frame pool: how many frames are free, and the lowest of them (the number of frames where none is).
+pub struct Pool {
+    pub free: u64,
+    pub next: PhysFrame,
+}
+
+// A file: whether it can be read (1) or not (0), and where its bytes stand among the lent ones.
+pub struct File {
+    pub readable: u64,
+    pub offset: u64,
+    pub len: u64,
+}
+
+// Where creation puts a region.
+pub enum Place {
+    At(VirtAddr),
+    Lowest,
+}
+
+// A row or slot that was looked for.
+pub enum Found {
+    At(usize),
+    Nothing,
+}
+
+// What a page is mapped to: the Rust's TranslateResult.
+pub enum Translated {
+    Mapped(Mapping),
+    NotMapped,
+}
+
+// What backs a page of a region, with the number of its holders: a page entry (its row) or the range.
+pub enum Backed {
+    ByEntry {
+        row: usize,
+        frame: PhysFrame,
+        count: u64,
+    },
+    ByRange {
+        frame: PhysFrame,
+        count: u64,
+    },
+    Unbacked,
+}
+
+// The ways of a page fault.
+pub enum Way {
+    Refuse(Refusal),
+    Already,
+    Restore,
+    Map {
+        frame: PhysFrame,
+        flags: PageTableFlags,
+    },
+    Copy {
+        frame: PhysFrame,
+    },
+    Fill,
+}
+
+// The answer of a call that gives no value.
+pub enum Done {
+    Yes,
+    No(Refusal),
+}
+
+// The answer of open: the process's number.
+pub enum Opened {
+    Process(u64),
+    No(Refusal),
+}
+
+// The answer of creation and of the look-up at an address: the region's start.
+pub enum Placed {
+    At(VirtAddr),
+    No(Refusal),
+}
+
+// The answer of covers.
+pub enum Covering {
+    Covered,
+    Uncovered,
+    No(Refusal),
+}
+
+// The answer of load.
+pub enum Loaded {
+    Byte(u8),
+    No(Refusal),
+}
+
+// The answer of carve and of the list of regions: the first `count` of `starts` are the regions' starts, the rest 0.
+pub struct Listed {
+    pub done: Done,
+    pub count: u64,
+    pub starts: [u64; 64],
+}
