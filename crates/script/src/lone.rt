@@ -94,7 +94,10 @@ impl Lone {
             manager,
         };
         match answer {
-            Reserved::At(at, restarts) => lone.says(Said::Answer(Answer::Start(at.start.0, restarts))),
+            Reserved::At(at, restarts) => lone.says(Said::Answer(Answer::Start(
+                at.start.0,
+                restarts,
+            ))),
             Reserved::Refused(why) => lone.says(Said::Answer(Answer::Refused(why))),
         }
     }
@@ -140,7 +143,12 @@ impl Lone {
             manager,
         };
         match answer {
-            SplitInto::Parts(low, high) => lone.says(Said::Answer(Answer::Parts(low.start.0, low.len, high.start.0, high.len))),
+            SplitInto::Parts(low, high) => lone.says(Said::Answer(Answer::Parts(
+                low.start.0,
+                low.len,
+                high.start.0,
+                high.len,
+            ))),
             SplitInto::Refused(why) => lone.says(Said::Answer(Answer::Refused(why))),
         }
     }

@@ -14,7 +14,10 @@ fn turn(session: Session, input: &mut [u8], line: &mut [u8], out: &mut [u8]) -> 
 {
     let got = libc::read(libc::STDIN_FILENO, input);
     if got < 0 {
-        io::write_all(libc::STDERR_FILENO, b"script: standard input cannot be read\n");
+        io::write_all(
+            libc::STDERR_FILENO,
+            b"script: standard input cannot be read\n",
+        );
         return session.stopped();
     }
     if got == 0 {

@@ -3,7 +3,6 @@ ghost use mathlib.Core.Path.{_≡_};
 ghost use Prim.Native.Nat.{_+_, _≤_};
 ghost use lib.ListN.{length};
 ghost use Rattle.script.specs.Session.{Kept};
-
 use crate::lone::Lone;
 use crate::lone::Said;
 use segments::Listed;
@@ -141,14 +140,24 @@ impl Session {
             return self;
         }
         if !io::write_all(libc::STDOUT_FILENO, &out[..at]) {
-            io::write_all(libc::STDERR_FILENO, b"script: standard output cannot be written\n");
+            io::write_all(
+                libc::STDERR_FILENO,
+                b"script: standard output cannot be written\n",
+            );
             self.on = false;
         }
         self
     }
 }
 
-fn put_said(out: &mut [u8], at: usize, line: &[u8], number: u64, said: Said, manager: VirtualMemoryManager) -> usize
+fn put_said(
+    out: &mut [u8],
+    at: usize,
+    line: &[u8],
+    number: u64,
+    said: Said,
+    manager: VirtualMemoryManager,
+) -> usize
     requires { ⌜ at + 4096 ≤ length (now out) ⌝ }
     ensures { λ r. ⌜ r ≤ at + 4096 ⌝ }
 {

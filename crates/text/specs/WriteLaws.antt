@@ -60,11 +60,12 @@ module _ (old : List ℕ) (at : ℕ) (text : List ℕ) (fits : at + length text 
   -- a text that reads as a number spells it
   pub spells : (most n : ℕ) → length text ≤ most → numberIn text ≡ Is n → Spelled most old at n new r
   spells most n short reads = record {
-      starts = omega (arith, put .next);
-      ends = omega (arith, put .next);
-      reads = ap numberIn stands ∙ reads;
-      before = kept-before;
-      behind = kept-behind }
+    starts = omega (arith, put .next);
+    ends = omega (arith, put .next);
+    reads = ap numberIn stands ∙ reads;
+    before = kept-before;
+    behind = kept-behind;
+  }
 
 -- one text behind another is the two together
 pub and-then : (old : List ℕ) (at : ℕ) (a mid : List ℕ) (r : ℕ) (b new : List ℕ) (q : ℕ) → at + length a ≤ length old

@@ -2,7 +2,6 @@
 ghost use mathlib.Core.Path.{_≡_};
 ghost use Prim.Native.Nat.{_+_, _≤_};
 ghost use lib.ListN.{length};
-
 use crate::call::Fault;
 use crate::call::Operand;
 use crate::words::Word;

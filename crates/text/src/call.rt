@@ -2,7 +2,6 @@
 ghost use Prim.Native.Nat.{_≤_};
 ghost use lib.ListN.{length};
 ghost use Rattle.text.specs.Call.{Within};
-
 use crate::lines::Held;
 use crate::lines::without_return;
 use crate::number::Number;

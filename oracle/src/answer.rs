@@ -1,0 +1,170 @@
+//! What a call answers: values, a refusal of document 01, or a panic of the Rust.
+
+use std::fmt;
+
+/// The refusals of document 01 with their numbers.
+#[derive(Clone, Copy, Debug, PartialEq, Eq, PartialOrd, Ord)]
+#[repr(u8)]
+pub enum Refusal {
+    BadTable = 1,
+    NoProcess,
+    BadAddress,
+    BadRange,
+    BadFlags,
+    NoFile,
+    NoRegion,
+    NoSpace,
+    SegmentReserved,
+    InvalidSplitPoint,
+    NotReserved,
+    NotAccessible,
+    NotWritable,
+    OutOfMemory,
+    ReadFailed,
+    MapFailed,
+    UnsupportedRegion,
+    EagerBacking,
+    Shared,
+    InUse,
+    TableFull,
+    Denied,
+}
+
+use Refusal::*;
+
+const ALL: [Refusal; 22] = [
+    BadTable,
+    NoProcess,
+    BadAddress,
+    BadRange,
+    BadFlags,
+    NoFile,
+    NoRegion,
+    NoSpace,
+    SegmentReserved,
+    InvalidSplitPoint,
+    NotReserved,
+    NotAccessible,
+    NotWritable,
+    OutOfMemory,
+    ReadFailed,
+    MapFailed,
+    UnsupportedRegion,
+    EagerBacking,
+    Shared,
+    InUse,
+    TableFull,
+    Denied,
+];
+
+impl Refusal {
+    #[must_use]
+    pub fn number(self) -> u8 {
+        self as u8
+    }
+
+    #[must_use]
+    pub fn from_number(number: u64) -> Option<Self> {
+        ALL.into_iter()
+            .find(|refusal| u64::from(refusal.number()) == number)
+    }
+
+    /// Whether a comparison with the Rust ends here: the answers 1 to 6, 16 and 21.
+    #[must_use]
+    pub fn ends_comparison(self) -> bool {
+        self <= NoFile || self == MapFailed || self == TableFull
+    }
+}
+
+#[derive(Clone, Copy, Debug, PartialEq, Eq)]
+pub enum Value {
+    /// An address or a length.
+    Hex(u64),
+    Count(u64),
+    Verdict(bool),
+}
+
+#[derive(Clone, Debug, PartialEq, Eq)]
+pub enum Answer {
+    Ok(Vec<Value>),
+    No(Refusal),
+    /// The machine's state, line by line.
+    State(String),
+    /// The Rust panicked: no answer.
+    Panic(String),
+    /// What must hold of every answer does not: this.
+    Broken(String),
+}
+
+impl Answer {
+    #[must_use]
+    pub fn done() -> Self {
+        Self::Ok(Vec::new())
+    }
+
+    #[must_use]
+    pub fn hex(value: u64) -> Self {
+        Self::Ok(vec![Value::Hex(value)])
+    }
+
+    #[must_use]
+    pub fn count(value: u64) -> Self {
+        Self::Ok(vec![Value::Count(value)])
+    }
+
+    #[must_use]
+    pub fn verdict(value: bool) -> Self {
+        Self::Ok(vec![Value::Verdict(value)])
+    }
+
+    /// How many there are, and then each of them.
+    #[must_use]
+    pub fn list(values: Vec<u64>, per_item: usize) -> Self {
+        let count = Value::Count((values.len() / per_item) as u64);
+        Self::Ok(
+            std::iter::once(count)
+                .chain(values.into_iter().map(Value::Hex))
+                .collect(),
+        )
+    }
+
+    #[must_use]
+    pub fn ends_comparison(&self) -> bool {
+        match self {
+            Self::No(refusal) => refusal.ends_comparison(),
+            Self::Panic(_) | Self::Broken(_) => true,
+            Self::Ok(_) | Self::State(_) => false,
+        }
+    }
+}
+
+impl From<Result<Answer, Refusal>> for Answer {
+    fn from(result: Result<Answer, Refusal>) -> Self {
+        result.unwrap_or_else(Self::No)
+    }
+}
+
+impl fmt::Display for Value {
+    fn fmt(&self, f: &mut fmt::Formatter<'_>) -> fmt::Result {
+        match self {
+            Self::Hex(value) => write!(f, "{value:#x}"),
+            Self::Count(value) => write!(f, "{value}"),
+            Self::Verdict(value) => f.write_str(if *value { "yes" } else { "no" }),
+        }
+    }
+}
+
+impl fmt::Display for Answer {
+    fn fmt(&self, f: &mut fmt::Formatter<'_>) -> fmt::Result {
+        match self {
+            Self::Ok(values) => {
+                f.write_str("ok")?;
+                values.iter().try_for_each(|value| write!(f, " {value}"))
+            }
+            Self::No(refusal) => write!(f, "no {} {refusal:?}", refusal.number()),
+            Self::State(lines) => write!(f, "{lines}end"),
+            Self::Panic(message) => write!(f, "panic {message}"),
+            Self::Broken(what) => write!(f, "broken {what}"),
+        }
+    }
+}

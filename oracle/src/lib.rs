@@ -1,0 +1,13 @@
+//! The oracle: answers scripts of calls with the kernel's own Rust, and compares others with it.
+
+pub mod answer;
+pub mod calls;
+pub mod caught;
+pub mod compare;
+pub mod generate;
+pub mod machine;
+pub mod manager;
+pub mod plain;
+pub mod random;
+pub mod rules;
+pub mod script;
