@@ -1,0 +1,2 @@
+-- What the exported functions do to lent bytes.
+pub mod Lent

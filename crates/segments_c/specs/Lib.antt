@@ -1,0 +1,4 @@
+-- What the exported calls do to lent words.
+pub mod Lent
+pub mod LentLaws
+pub mod WordsLaws

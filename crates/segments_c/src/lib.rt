@@ -1,0 +1,144 @@
+// The segment manager for C and Rust programs, on words that the caller lends (include/segments.h): arena start, arena size,
+// count, and 64 rows of start and length. Each call answers 0, or document 01's number of a refusal, and sets all four words of
+// `out`. A refusal leaves the manager's words as they were; so does a slice of another length, whose answer is 1, BadTable.
+ghost use mathlib.Core.Path.{_≡_};
+ghost use mathlib.Core.List.{[]};
+ghost use Rattle.segments_c.specs.Lent.{lent, newOn, markOn, reserveOn, releaseOn, splitOn};
+
+mod words;
+
+use address::VirtAddr;
+use segments::Answered;
+use segments::Released;
+use segments::Reserved;
+use segments::Segment;
+use segments::SplitInto;
+use segments::VirtualMemoryManager;
+use words::load;
+use words::put_out;
+use words::store;
+
+// A manager with no segments over an arena.
+#[no_mangle]
+pub extern "C" fn manager_new(words: &mut [u64], start: u64, size: u64) -> u64
+    ensures { λ r. ⌜ lent r (now (words .exit)) [] ≡ newOn (now (words .entry)) start size ⌝ }
+{
+    if words.len() != 131 {
+        return 1;
+    }
+    let done = VirtualMemoryManager::new(VirtAddr(start), size);
+    let answer = done.answer;
+    let manager = done.manager;
+    match answer {
+        Answered::Refused(why) => why.number(),
+        Answered::Done => {
+            store(words, manager);
+            0
+        }
+    }
+}
+
+// Reserves the lowest free start: out[0] is the start, out[1] how often the search started over.
+#[no_mangle]
+pub extern "C" fn manager_reserve(words: &mut [u64], len: u64, out: &mut [u64]) -> u64
+    ensures { λ r. ⌜ lent r (now (words .exit)) (now (out .exit)) ≡ reserveOn (now (words .entry)) len (now (out .entry)) ⌝ }
+{
+    if words.len() != 131 {
+        return 1;
+    }
+    if out.len() != 4 {
+        return 1;
+    }
+    let done = load(&words[..]).reserve_bytes(len);
+    let answer = done.answer;
+    let manager = done.manager;
+    match answer {
+        Reserved::Refused(why) => {
+            put_out(out, 0, 0, 0, 0);
+            why.number()
+        }
+        Reserved::At(segment, restarts) => {
+            store(words, manager);
+            put_out(out, segment.start.0, restarts, 0, 0);
+            0
+        }
+    }
+}
+
+// Reserves a given segment, in the arena or not.
+#[no_mangle]
+pub extern "C" fn manager_mark(words: &mut [u64], start: u64, len: u64) -> u64
+    ensures { λ r. ⌜ lent r (now (words .exit)) [] ≡ markOn (now (words .entry)) start len ⌝ }
+{
+    if words.len() != 131 {
+        return 1;
+    }
+    let done = load(&words[..]).mark_as_reserved(Segment::new(VirtAddr(start), len));
+    let answer = done.answer;
+    let manager = done.manager;
+    match answer {
+        Answered::Refused(why) => why.number(),
+        Answered::Done => {
+            store(words, manager);
+            0
+        }
+    }
+}
+
+// Gives a segment up: out[0] is 1 if it was held exactly so, else 0.
+#[no_mangle]
+pub extern "C" fn manager_release(words: &mut [u64], start: u64, len: u64, out: &mut [u64]) -> u64
+    ensures { λ r. ⌜ lent r (now (words .exit)) (now (out .exit)) ≡ releaseOn (now (words .entry)) start len (now (out .entry)) ⌝ }
+{
+    if words.len() != 131 {
+        return 1;
+    }
+    if out.len() != 4 {
+        return 1;
+    }
+    let done = load(&words[..]).release(Segment::new(VirtAddr(start), len));
+    let answer = done.answer;
+    let manager = done.manager;
+    match answer {
+        Released::Refused(why) => {
+            put_out(out, 0, 0, 0, 0);
+            why.number()
+        }
+        Released::No => {
+            put_out(out, 0, 0, 0, 0);
+            0
+        }
+        Released::Yes => {
+            store(words, manager);
+            put_out(out, 1, 0, 0, 0);
+            0
+        }
+    }
+}
+
+// Replaces a held segment by the two that meet at `at`: out is start and length of the lower, then of the upper.
+#[no_mangle]
+pub extern "C" fn manager_split(words: &mut [u64], start: u64, len: u64, at: u64, out: &mut [u64]) -> u64
+    ensures { λ r. ⌜ lent r (now (words .exit)) (now (out .exit)) ≡ splitOn (now (words .entry)) start len at (now (out .entry)) ⌝ }
+{
+    if words.len() != 131 {
+        return 1;
+    }
+    if out.len() != 4 {
+        return 1;
+    }
+    let done = load(&words[..]).split(Segment::new(VirtAddr(start), len), VirtAddr(at));
+    let answer = done.answer;
+    let manager = done.manager;
+    match answer {
+        SplitInto::Refused(why) => {
+            put_out(out, 0, 0, 0, 0);
+            why.number()
+        }
+        SplitInto::Parts(low, high) => {
+            store(words, manager);
+            put_out(out, low.start.0, low.len, high.start.0, high.len);
+            0
+        }
+    }
+}
