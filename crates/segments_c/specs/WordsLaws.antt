@@ -26,12 +26,13 @@ load-first w = (omega arith, refl)
 
 module _ (w : List ℕ) (rows : List Segment) (i : ℕ) (inv : Loaded w rows i) where
   pub load-more : i < 64 → Loaded w (set rows i (rowAt w i)) (i + 1)
-  load-more h =
-      (omega arith,
-      ap (λ t. set t i (rowAt w i)) (inv .1 ∙ ap (λ (k : ℕ). tableOf w i ++ replicate k noSegment) (let f : 64 - i ≡ suc (64 - (i + 1)) = omega arith in f))
-      ∙ set-at (tableOf w i) noSegment (replicate (64 - (i + 1)) noSegment) (rowAt w i) i (table-length w i)
-      ∙ sym (append-assoc (tableOf w i) (rowAt w i ∷ []) (replicate (64 - (i + 1)) noSegment))
-      ∙ ap (λ t. t ++ replicate (64 - (i + 1)) noSegment) (sym (table-snoc w i)))
+  load-more h = (
+    omega arith,
+    ap (λ t. set t i (rowAt w i)) (inv .1 ∙ ap (λ (k : ℕ). tableOf w i ++ replicate k noSegment) (let f : 64 - i ≡ suc (64 - (i + 1)) = omega arith in f))
+        ∙ set-at (tableOf w i) noSegment (replicate (64 - (i + 1)) noSegment) (rowAt w i) i (table-length w i)
+        ∙ sym (append-assoc (tableOf w i) (rowAt w i ∷ []) (replicate (64 - (i + 1)) noSegment))
+        ∙ ap (λ t. t ++ replicate (64 - (i + 1)) noSegment) (sym (table-snoc w i)),
+  )
 
   pub load-done : 64 ≤ i → rows ≡ tableOf w 64
   load-done h =
@@ -72,14 +73,18 @@ module _ (w : List ℕ) (rows : List Segment) (sized : length rows ≡ 64) (now 
   row = getD rows i noSegment
 
   pub store-more : i < 64 → Stored w rows (set (set now (3 + i * 2) (getD rows i noSegment .start .0)) (4 + i * 2) (getD rows i noSegment .len)) (i + 1)
-  store-more h =
-      (omega arith, (length-set (set now (3 + i * 2) a) (4 + i * 2) b ∙ length-set now (3 + i * 2) a ∙ inv .1 .0,
+  store-more h = (
+    omega arith,
+    (
+      length-set (set now (3 + i * 2) a) (4 + i * 2) b ∙ length-set now (3 + i * 2) a ∙ inv .1 .0,
       ap (λ (k : ℕ). take k (set (set now (3 + i * 2) a) (4 + i * 2) b)) (let f : 3 + (i + 1) * 2 ≡ suc (suc (3 + i * 2)) = omega arith in f)
-      ∙ ap (λ (k : ℕ). take (suc (suc (3 + i * 2))) (set (set now (3 + i * 2) a) k b)) (let f : 4 + i * 2 ≡ suc (3 + i * 2) = omega arith in f)
-      ∙ take-two now (3 + i * 2) a b (rw (inv .1 .0) (omega arith))
-      ∙ ap (λ t. t ++ (a ∷ b ∷ [])) (inv .1 .1)
-      ∙ append-assoc (take 3 w) (numbers (take i rows)) (a ∷ b ∷ [])
-      ∙ ap (λ t. take 3 w ++ t) (sym (numbers-snoc (take i rows) (getD rows i noSegment)) ∙ ap numbers (sym (take-suc rows i noSegment (rw sized h)) ∙ ap (λ (k : ℕ). take k rows) (sym (add-one i))))))
+          ∙ ap (λ (k : ℕ). take (suc (suc (3 + i * 2))) (set (set now (3 + i * 2) a) k b)) (let f : 4 + i * 2 ≡ suc (3 + i * 2) = omega arith in f)
+          ∙ take-two now (3 + i * 2) a b (rw (inv .1 .0) (omega arith))
+          ∙ ap (λ t. t ++ (a ∷ b ∷ [])) (inv .1 .1)
+          ∙ append-assoc (take 3 w) (numbers (take i rows)) (a ∷ b ∷ [])
+          ∙ ap (λ t. take 3 w ++ t) (sym (numbers-snoc (take i rows) (getD rows i noSegment)) ∙ ap numbers (sym (take-suc rows i noSegment (rw sized h)) ∙ ap (λ (k : ℕ). take k rows) (sym (add-one i)))),
+    ),
+  )
     where
       a : ℕ
       a = getD rows i noSegment .start .0

@@ -118,7 +118,13 @@ pub extern "C" fn manager_release(words: &mut [u64], start: u64, len: u64, out: 
 
 // Replaces a held segment by the two that meet at `at`: out is start and length of the lower, then of the upper.
 #[no_mangle]
-pub extern "C" fn manager_split(words: &mut [u64], start: u64, len: u64, at: u64, out: &mut [u64]) -> u64
+pub extern "C" fn manager_split(
+    words: &mut [u64],
+    start: u64,
+    len: u64,
+    at: u64,
+    out: &mut [u64],
+) -> u64
     ensures { λ r. ⌜ lent r (now (words .exit)) (now (out .exit)) ≡ splitOn (now (words .entry)) start len at (now (out .entry)) ⌝ }
 {
     if words.len() != 131 {

@@ -4,7 +4,6 @@ ghost use mathlib.Core.List.{[], _∷_};
 ghost use lib.ListN.{length};
 ghost use Rattle.segments.specs.Words.{tableOf};
 ghost use Rattle.segments_c.specs.Lent.{managerOf, wordsOf};
-
 use address::VirtAddr;
 use segments::Segment;
 use segments::VirtualMemoryManager;

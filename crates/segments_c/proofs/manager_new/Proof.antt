@@ -27,7 +27,7 @@ store-requires : tie.Need-store-requires
 store-requires c κs = search needs
 
 returns-2 : tie.Need-returns-2
-returns-2 c = 
+returns-2 c =
     let a = c .before .before .before .before .before .before .before .before .args in
     let n = c .before .before .before .before .before .new in
     new-is (a .words .now) (c .before .before .before .before .before .before .if1 .left) (managerOf (a .words .now)) refl (a .start) (a .size) (n .result) _ (n .ensures)
@@ -37,7 +37,7 @@ same-length : tie.Need-same-length
 same-length c = search needs
 
 returns-3 : tie.Need-returns-3
-returns-3 c = 
+returns-3 c =
     let a = c .before .before .before .before .before .before .before .before .before .before .args in
     let n = c .before .before .before .before .before .before .before .new in
     let s = c .before .before .store in

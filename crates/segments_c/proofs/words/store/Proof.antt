@@ -23,7 +23,7 @@ slice-write-words-3 : tie.Need-slice-write-words-3 Inv-loop μ-loop
 slice-write-words-3 c = simp length-set (omega arith)
 
 loop-holds : tie.Need-loop-holds Inv-loop μ-loop
-loop-holds c = 
+loop-holds c =
     let a = c .before .args in
     let m = a .manager in
     store-first (set (set (set (a .words .now) 0 (m .«mem_start» .0)) 1 (m .«mem_size»)) 2 (m .count)) (m .segments) (simp length-set (c .before .pre))
@@ -65,7 +65,7 @@ loop-less : tie.Need-loop-less Inv-loop μ-loop
 loop-less c = omega arith
 
 loop-again : tie.Need-loop-again Inv-loop μ-loop
-loop-again c = 
+loop-again c =
     let s = c .before .before .before .before in
     let m = s .args .manager in
     store-more (set (set (set (s .args .words .now) 0 (m .«mem_start» .0)) 1 (m .«mem_size»)) 2 (m .count)) (s .args .manager .segments) (rw length-map at (s .good .1 .0 .1 .1 .1 .1 .1 .0 .1 .0 .1)) (c .before .before .loop .words) (c .before .before .loop .i) (c .before .before .loop .inv) (c .before .loop-test .taken)
@@ -74,7 +74,7 @@ same-length : tie.Need-same-length Inv-loop μ-loop
 same-length c = c .before .loop .inv .1 .0 ∙ sym (c .before .before .before .pre)
 
 returns : tie.Need-returns Inv-loop μ-loop
-returns c = 
+returns c =
     let s = c .before .before .before in
     stored-words (s .args .words .now) (c .before .loop .words) (s .args .manager) (s .pre)
     (store-done (set (set (set (s .args .words .now) 0 (s .args .manager .«mem_start» .0)) 1 (s .args .manager .«mem_size»)) 2 (s .args .manager .count)) (s .args .manager .segments) (rw length-map at (s .good .1 .0 .1 .1 .1 .1 .1 .0 .1 .0 .1)) (c .before .loop .words) (c .before .loop .i) (c .before .loop .inv) (c .loop-test .left))
