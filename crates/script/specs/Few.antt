@@ -1,11 +1,10 @@
 -- A list of segments has 64 rows at most, so that its answer fits the room that is kept.
-use mathlib.Core.Path.{_≡_, refl, sym, subst}
+use mathlib.Core.Path.{_≡_, refl, subst}
 use mathlib.Core.Bool.{Bool, true, false}
 use Prim.Native.Nat.{ℕ, _≤_}
 use native.Mathlib.Omega.{arith}
 use Rattle.segments.specs.declared.table.VirtualMemoryManager.{VirtualMemoryManager}
 use Rattle.segments.specs.declared.manager.ListAnswer.{ListAnswer}
-use Rattle.segments.specs.declared.manager.Listed.{Listed}
 use Rattle.segments.specs.declared.manager.Listed.the-variants.{Held, Refused}
 use Rattle.segments.specs.Table.{soundb}
 use Rattle.segments.specs.Calls.{listCall}

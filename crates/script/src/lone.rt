@@ -1,4 +1,8 @@
 // The script's manager: what a call answers, and the manager after it.
+ghost use mathlib.Core.Path.{_≡_};
+ghost use mathlib.Core.Bool.{true};
+ghost use Rattle.script.specs.declared.lone.Said.the-variants as said;
+ghost use Rattle.script.specs.Step.{says, newStep, reserveStep, markStep, releaseStep, splitStep, listStep, stepOf};
 use address::VirtAddr;
 use segments::Answered;
 use segments::Released;
@@ -42,118 +46,128 @@ impl Lone {
     }
 
     // Runs a call. What is no call leaves the manager as it was.
-    pub fn step(self, call: Call) -> Step {
+    pub fn step(self, call: Call) -> Step
+        ensures { λ r. ⌜ r ≡ stepOf self call ⌝ }
+    {
         match call {
             Call::Skip => self.says(Said::Nothing),
             Call::Bad(fault) => self.says(Said::Fault(fault)),
             Call::Manager(start, size) => self.renewed(start, size),
-            _ => self.called(call),
-        }
-    }
-
-    // Runs a call that wants a manager.
-    fn called(self, call: Call) -> Step {
-        if !self.made {
-            return self.says(Said::Fault(Fault::NoManager));
-        }
-        match call {
             Call::Reserve(len) => self.reserve(len),
-            Call::Mark(start, len) => self.mark(segment(start, len)),
-            Call::Release(start, len) => self.release(segment(start, len)),
-            Call::Split(start, len, at) => self.split(segment(start, len), at),
-            _ => self.says(Said::List),
+            Call::Mark(start, len) => self.mark(start, len),
+            Call::Release(start, len) => self.release(start, len),
+            Call::Split(start, len, at) => self.split(start, len, at),
+            Call::Segments => self.list(),
         }
     }
 
-    fn says(self, said: Said) -> Step {
+    fn says(self, said: Said) -> Step
+        ensures { λ r. ⌜ r ≡ says self said ⌝ }
+    {
         Step { said, lone: self }
     }
 
-    // A new manager in the place of the one before, which stays where the new one is refused.
-    fn renewed(self, start: u64, size: u64) -> Step {
+    // A new manager in the place of the one before, which stays if the new one is refused.
+    fn renewed(self, start: u64, size: u64) -> Step
+        ensures { λ r. ⌜ r ≡ newStep self start size ⌝ }
+    {
         let done = VirtualMemoryManager::new(VirtAddr(start), size);
         let answer = done.answer;
         let manager = done.manager;
-        if let Answered::Refused(why) = answer {
-            return self.says(Said::Answer(Answer::Refused(why)));
+        match answer {
+            Answered::Done => made(manager, Answer::Done),
+            Answered::Refused(why) => self.says(Said::Answer(Answer::Refused(why))),
         }
-        let lone = Lone {
-            made: true,
-            manager,
-        };
-        lone.says(Said::Answer(Answer::Done))
     }
 
-    fn reserve(self, len: u64) -> Step {
+    fn reserve(self, len: u64) -> Step
+        ensures { λ r. ⌜ r ≡ reserveStep self len ⌝ }
+    {
+        if !self.made {
+            return self.says(Said::Fault(Fault::NoManager));
+        }
         let before = self.manager;
         let done = before.reserve_bytes(len);
         let answer = done.answer;
         let manager = done.manager;
-        let lone = Lone {
-            made: true,
-            manager,
-        };
         match answer {
-            Reserved::At(at, restarts) => lone.says(Said::Answer(Answer::Start(
-                at.start.0,
-                restarts,
-            ))),
-            Reserved::Refused(why) => lone.says(Said::Answer(Answer::Refused(why))),
+            Reserved::At(at, restarts) => made(manager, Answer::Start(at.start.0, restarts)),
+            Reserved::Refused(why) => made(manager, Answer::Refused(why)),
         }
     }
 
-    fn mark(self, segment: Segment) -> Step {
+    fn mark(self, start: u64, len: u64) -> Step
+        ensures { λ r. ⌜ r ≡ markStep self start len ⌝ }
+    {
+        if !self.made {
+            return self.says(Said::Fault(Fault::NoManager));
+        }
         let before = self.manager;
-        let done = before.mark_as_reserved(segment);
+        let done = before.mark_as_reserved(Segment::new(VirtAddr(start), len));
         let answer = done.answer;
         let manager = done.manager;
-        let lone = Lone {
-            made: true,
-            manager,
-        };
         match answer {
-            Answered::Done => lone.says(Said::Answer(Answer::Done)),
-            Answered::Refused(why) => lone.says(Said::Answer(Answer::Refused(why))),
+            Answered::Done => made(manager, Answer::Done),
+            Answered::Refused(why) => made(manager, Answer::Refused(why)),
         }
     }
 
-    fn release(self, segment: Segment) -> Step {
+    fn release(self, start: u64, len: u64) -> Step
+        ensures { λ r. ⌜ r ≡ releaseStep self start len ⌝ }
+    {
+        if !self.made {
+            return self.says(Said::Fault(Fault::NoManager));
+        }
         let before = self.manager;
-        let done = before.release(segment);
+        let done = before.release(Segment::new(VirtAddr(start), len));
         let answer = done.answer;
         let manager = done.manager;
-        let lone = Lone {
-            made: true,
-            manager,
-        };
         match answer {
-            Released::Yes => lone.says(Said::Answer(Answer::Yes)),
-            Released::No => lone.says(Said::Answer(Answer::No)),
-            Released::Refused(why) => lone.says(Said::Answer(Answer::Refused(why))),
+            Released::Yes => made(manager, Answer::Yes),
+            Released::No => made(manager, Answer::No),
+            Released::Refused(why) => made(manager, Answer::Refused(why)),
         }
     }
 
-    fn split(self, segment: Segment, at: u64) -> Step {
+    fn split(self, start: u64, len: u64, at: u64) -> Step
+        ensures { λ r. ⌜ r ≡ splitStep self start len at ⌝ }
+    {
+        if !self.made {
+            return self.says(Said::Fault(Fault::NoManager));
+        }
         let before = self.manager;
-        let done = before.split(segment, VirtAddr(at));
+        let done = before.split(Segment::new(VirtAddr(start), len), VirtAddr(at));
         let answer = done.answer;
         let manager = done.manager;
-        let lone = Lone {
-            made: true,
-            manager,
-        };
         match answer {
-            SplitInto::Parts(low, high) => lone.says(Said::Answer(Answer::Parts(
-                low.start.0,
-                low.len,
-                high.start.0,
-                high.len,
-            ))),
-            SplitInto::Refused(why) => lone.says(Said::Answer(Answer::Refused(why))),
+            SplitInto::Parts(low, high) => made(
+                manager,
+                Answer::Parts(low.start.0, low.len, high.start.0, high.len),
+            ),
+            SplitInto::Refused(why) => made(manager, Answer::Refused(why)),
         }
+    }
+
+    // The list itself is written from the manager.
+    fn list(self) -> Step
+        ensures { λ r. ⌜ r ≡ listStep self ⌝ }
+    {
+        if !self.made {
+            return self.says(Said::Fault(Fault::NoManager));
+        }
+        self.says(Said::List)
     }
 }
 
-fn segment(start: u64, len: u64) -> Segment {
-    Segment::new(VirtAddr(start), len)
+// An answer with the manager that is there now.
+fn made(manager: VirtualMemoryManager, answer: Answer) -> Step
+    ensures { λ r. ⌜ r ≡ says (record { made = true; manager = manager }) (said.Answer answer) ⌝ }
+{
+    Step {
+        said: Said::Answer(answer),
+        lone: Lone {
+            made: true,
+            manager,
+        },
+    }
 }

@@ -28,10 +28,7 @@ impl Session {
     {
         Session {
             lone: Lone::new(),
-            held: Held {
-                len: 0,
-                long: false,
-            },
+            held: Held::new(),
             lines: 0,
             at: 0,
             on: true,
@@ -59,7 +56,8 @@ impl Session {
         requires { ⌜ Kept self (length (now line)) (length (now out)) ⌝ }
         ensures { λ r. ⌜ Kept r (length (now (line .entry))) (length (now (out .entry))) ⌝ }
     {
-        if self.held.len == 0 {
+        let held = self.held;
+        if held.is_empty() {
             return self.flushed(out).stopped();
         }
         self.line_ended(line, out).flushed(out).stopped()
@@ -106,10 +104,7 @@ impl Session {
         let at = put_said(out, roomy.at, line, lines, said, after.manager);
         Session {
             lone: after,
-            held: Held {
-                len: 0,
-                long: false,
-            },
+            held: Held::new(),
             lines,
             at,
             on: roomy.on,

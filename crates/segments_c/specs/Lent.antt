@@ -1,5 +1,5 @@
 -- The manager's calls on lent words: what each answers, and what it leaves in the words and in `out`.
-use mathlib.Core.Bool.{Bool, _&&_, cond}
+use mathlib.Core.Bool.{_&&_, cond}
 use mathlib.Core.List.{List, [], _∷_}
 use Prim.Native.Nat.{ℕ}
 use lib.Dec.{eqb}

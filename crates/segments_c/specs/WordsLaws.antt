@@ -5,7 +5,7 @@ use Prim.Native.Nat.{ℕ, zero, suc, _+_, _-_, _*_, _≤_, _<_}
 use native.Mathlib.Omega.{arith}
 use native.Mathlib.Numerals.{add-one}
 use lib.ListN.{length, take, drop, getD, set, replicate, length-set, length-drop}
-use lib.Seq.{take-suc, take-suc-set, take-all, set-at, length-take-le}
+use lib.Seq.{take-suc, take-suc-set, take-all, set-at}
 use Rattle.segments.specs.declared.segment.Segment.{Segment}
 use Rattle.segments.specs.declared.table.VirtualMemoryManager.{VirtualMemoryManager}
 use Rattle.segments.specs.Form.{startOf}

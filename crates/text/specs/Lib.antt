@@ -1,5 +1,7 @@
 -- The definitions of the script's text, and their laws.
 pub mod Call
+pub mod Lines
+pub mod LinesLaws
 pub mod Number
 pub mod NumberLaws
 pub mod Words

@@ -1,12 +1,12 @@
 -- Reading digit by digit gives the number that the digits are worth, and a number's digits read back as the number.
-use mathlib.Core.Path.{_≡_, refl, sym, ap, _∙_}
+use mathlib.Core.Path.{_≡_, refl, ap, _∙_}
 use mathlib.Core.Bool.{Bool, true, false, _&&_, cond}
 use mathlib.Core.List.{List, [], _∷_, _++_}
 use Prim.Native.Nat.{ℕ, zero, suc, _+_, _-_, _*_, _/_, _%_, _^_, _≤_, _<_}
 use native.Mathlib.Omega.{arith}
 use native.Mathlib.Numerals.{add-one}
-use native.Mathlib.Nat.{mul-le-mul-left, le-trans, le-add-right, mul-one, div-add-mod', mod-lt, div-lt-iff-lt-mul, le-div-iff-mul-le, pow-zero, pow-succ', mul-comm}
-use lib.Dec.{eqb, ltb, leb}
+use native.Mathlib.Nat.{mul-le-mul-left, le-trans, le-add-right, div-add-mod', mod-lt, div-lt-iff-lt-mul, le-div-iff-mul-le, pow-zero, pow-succ', mul-comm}
+use lib.Dec.{ltb}
 use lib.ListN.{length, getD, take, drop, length-drop, drop-of-length-le}
 use lib.Seq.{drop-cons, take-all}
 use borrow.Author.Tests.{lt-ltb, le-ltb, ltb-true, ltb-false, le-leb, lt-leb, ne-eqb}

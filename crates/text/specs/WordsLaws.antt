@@ -1,15 +1,13 @@
 -- How the loops over a line count blanks and letters: at each place, what is left adds up to the same.
-use mathlib.Core.Path.{_≡_, refl, sym, ap, _∙_}
-use mathlib.Core.Bool.{Bool, true, false, _||_, cond}
-use mathlib.Core.List.{List, [], _∷_}
-use Prim.Native.Nat.{ℕ, zero, suc, _+_, _≤_, _<_}
+use mathlib.Core.Path.{_≡_}
+use mathlib.Core.Bool.{Bool, true, false, _||_}
+use mathlib.Core.List.{List}
+use Prim.Native.Nat.{ℕ, _+_, _≤_, _<_}
 use native.Mathlib.Omega.{arith}
 use native.Mathlib.Numerals.{add-one}
-use lib.Dec.{eqb}
 use lib.ListN.{length, getD, drop, drop-of-length-le}
 use lib.Seq.{drop-cons}
-use Rattle.text.specs.declared.words.Word.{Word}
-use Rattle.text.specs.Words.{blank, blanks, letters, wordFrom, wordAt}
+use Rattle.text.specs.Words.{blank, blanks, letters, wordAt}
 
 -- the code's `x || y`, as its two ways answer
 pub or-first : (x y : Bool) → x ≡ true → x ≡ (x || y)

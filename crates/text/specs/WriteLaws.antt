@@ -1,19 +1,18 @@
 -- What is put into a buffer stands there, and a number's digits read back as the number.
 use mathlib.Core.Path.{_≡_, refl, sym, ap, _∙_}
-use mathlib.Core.Bool.{Bool, true, false, _&&_, cond, false≢true}
+use mathlib.Core.Bool.{Bool, true, false, _&&_, false≢true}
 use mathlib.Core.List.{List, [], _∷_, _++_, append-assoc, append-nil}
 use Prim.Native.Nat.{ℕ, zero, suc, _+_, _-_, _/_, _%_, _^_, _≤_, _<_}
 use native.Mathlib.Omega.{arith}
 use native.Mathlib.Numerals.{add-one}
-use native.Mathlib.Nat.{pow-le-pow-right, le-trans}
+use native.Mathlib.Nat.{pow-le-pow-right}
 use lib.Dec.{eqb, ltb, leb}
-use lib.ListN.{length, getD, take, drop, length-append, length-take, length-drop, drop-of-length-le}
+use lib.ListN.{length, take, drop, length-append, length-drop, drop-of-length-le}
 use lib.Seq.{take-all, take-length, drop-drop, take-at, drop-at, length-take-le}
 use borrow.Author.Tests.{lt-ltb, le-leb, leb-true, leb-false, eqb-true, ne-eqb}
 use Rattle.io.specs.Digits.{glyph, digits, Fewest}
-use Rattle.text.specs.declared.number.Number.{Number}
 use Rattle.text.specs.declared.number.Number.the-variants.{Is}
-use Rattle.text.specs.Number.{digitOf, digitsb, valueFrom, fitting, after, digitsIn, numberIn, prefixed}
+use Rattle.text.specs.Number.{digitOf, digitsb, fitting, digitsIn, numberIn, prefixed}
 use Rattle.text.specs.NumberLaws.{digits-digits, digits-value}
 use Rattle.text.specs.Write.{Put, Spelled}
 
@@ -48,7 +47,7 @@ module _ (old : List ℕ) (at : ℕ) (text : List ℕ) (fits : at + length text 
   kept-behind : drop r new ≡ drop r old
   kept-behind = ap (drop r) regrouped ∙ drop-at (take at old ++ text) (drop r old) r up-to
 
-  up-to-end : take r new ≡ take at old ++ text
+  pub up-to-end : take r new ≡ take at old ++ text
   up-to-end = ap (take r) regrouped ∙ take-at (take at old ++ text) (drop r old) r up-to
 
   stands : take (r - at) (drop at new) ≡ text

@@ -49,6 +49,10 @@ enum Name {
     Release,
     Split,
     Segments,
+}
+
+enum Named {
+    Is(Name),
     Unknown,
 }
 
@@ -92,36 +96,35 @@ pub fn parse(line: &[u8]) -> Call {
     if from == to {
         return Call::Skip;
     }
-    let name = name_of(&line[from..to]);
-    if let Name::Unknown = name {
+    let Named::Is(name) = name_of(&line[from..to]) else {
         return Call::Bad(Fault::UnknownCall(word));
-    }
+    };
     match first(line, to, operands_of(name)) {
         Values::Are(x, y, z) => call_of(name, x, y, z),
         Values::Bad(fault) => Call::Bad(fault),
     }
 }
 
-fn name_of(word: &[u8]) -> Name {
+fn name_of(word: &[u8]) -> Named {
     if check::same(word, b"manager") {
-        return Name::Manager;
+        return Named::Is(Name::Manager);
     }
     if check::same(word, b"reserve") {
-        return Name::Reserve;
+        return Named::Is(Name::Reserve);
     }
     if check::same(word, b"mark") {
-        return Name::Mark;
+        return Named::Is(Name::Mark);
     }
     if check::same(word, b"release") {
-        return Name::Release;
+        return Named::Is(Name::Release);
     }
     if check::same(word, b"split") {
-        return Name::Split;
+        return Named::Is(Name::Split);
     }
     if check::same(word, b"segments") {
-        return Name::Segments;
+        return Named::Is(Name::Segments);
     }
-    Name::Unknown
+    Named::Unknown
 }
 
 fn operands_of(name: Name) -> Operands {
@@ -132,7 +135,6 @@ fn operands_of(name: Name) -> Operands {
         Name::Release => Operands(Operand::Start, Operand::Len, Operand::Nothing),
         Name::Split => Operands(Operand::Start, Operand::Len, Operand::At),
         Name::Segments => Operands(Operand::Nothing, Operand::Nothing, Operand::Nothing),
-        Name::Unknown => Operands(Operand::Nothing, Operand::Nothing, Operand::Nothing),
     }
 }
 
@@ -144,7 +146,6 @@ fn call_of(name: Name, x: u64, y: u64, z: u64) -> Call {
         Name::Release => Call::Release(x, y),
         Name::Split => Call::Split(x, y, z),
         Name::Segments => Call::Segments,
-        Name::Unknown => Call::Skip,
     }
 }
 

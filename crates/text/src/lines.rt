@@ -2,6 +2,8 @@
 ghost use mathlib.Core.Path.{_≡_};
 ghost use Prim.Native.Nat.{_+_, _≤_};
 ghost use lib.ListN.{length, drop};
+ghost use Rattle.text.specs.Lines.{lineLength, Gathered};
+use crate::write::put;
 
 // How much of a line the buffer holds, and whether the line is longer than the buffer.
 pub struct Held {
@@ -9,9 +11,30 @@ pub struct Held {
     pub long: bool,
 }
 
+impl Held {
+    // Nothing yet.
+    pub fn new() -> Held
+        ensures { λ r. ⌜ r .len ≡ 0 ⌝ }
+    {
+        Held {
+            len: 0,
+            long: false,
+        }
+    }
+
+    // Whether not a byte of the line was read.
+    pub fn is_empty(self) -> bool {
+        if self.long {
+            return false;
+        }
+        self.len == 0
+    }
+}
+
 // The place of the first newline from `at` on, or the chunk's length.
 pub fn line_end(chunk: &[u8], at: usize) -> usize
     requires { ⌜ at ≤ length (now chunk) ⌝ }
+    ensures { λ r. ⌜ r ≡ at + lineLength (drop at (now (chunk .entry))) ⌝ }
     ensures { λ r. ⌜ (at ≤ r) × (r ≤ length (now (chunk .entry))) ⌝ }
 {
     let mut i = at;
@@ -27,7 +50,7 @@ pub fn line_end(chunk: &[u8], at: usize) -> usize
 // Puts one more part of the line behind what is held.
 pub fn gather(line: &mut [u8], held: Held, part: &[u8]) -> Held
     requires { ⌜ held .len ≤ length (now line) ⌝ }
-    ensures { λ r. ⌜ r .len ≤ length (now (line .exit)) ⌝ }
+    ensures { λ r. ⌜ Gathered (now (line .entry)) held (now (part .entry)) (now (line .exit)) r ⌝ }
 {
     let len = held.len;
     if held.long {
@@ -36,9 +59,8 @@ pub fn gather(line: &mut [u8], held: Held, part: &[u8]) -> Held
     if line.len() - len < part.len() {
         return Held { len, long: true };
     }
-    bytes::copy(part, &mut line[len..]);
     Held {
-        len: len + part.len(),
+        len: put(line, len, part),
         long: false,
     }
 }

@@ -1,3 +1,4 @@
+-- `answer::put_name` meets its contract: a name has 17 bytes at most.
 use mathlib.Core.Path.{sym}
 use native.Mathlib.Omega.{arith}
 use lib.ListN.{length-take}
@@ -5,44 +6,31 @@ use lib.Seq.{length-take-le}
 use borrow.Author.Needs.{needs}
 use Rattle.text.proofs.answer.put_name.Statement.{statement}
 use Rattle.text.proofs.answer.put_name.Tie as tie
-use Rattle.text.proofs.answer.put_name.Reads as reads
-use Rattle.text.proofs.answer.put_name.Lts as lts
-use Rattle.text.proofs.answer.name_of.Reads as name-of-reads
-use Rattle.text.proofs.words.word_end.Reads as word-end-reads
-use Rattle.text.proofs.write.put.Reads as put-reads
 
--- src/answer.rt:98:16
 name-of-requires : tie.Need-name-of-requires
 name-of-requires c κs = search needs
 
--- src/answer.rt:99:22
 slice-aggregate-word-end : tie.Need-slice-aggregate-word-end
 slice-aggregate-word-end c = search needs
 
--- src/answer.rt:99:9
 word-end-requires : tie.Need-word-end-requires
 word-end-requires c κs = search needs
 
--- src/answer.rt:100:18
 array-share-prefix-name : tie.Need-array-share-prefix-name
 array-share-prefix-name c = search needs
 
--- src/answer.rt:100:18
 slice-aggregate-put : tie.Need-slice-aggregate-put
 slice-aggregate-put c = sym (length-take-le _ _ (c .before .before .word-end .ensures .1 .1))
 
--- src/answer.rt:100:5
 put-requires : tie.Need-put-requires
 put-requires c κs =
     let w = c .before .before .word-end in
     let n = c .before .before .before .before .name-of in
     omega (arith, length-take (w .result) (n .result))
 
--- src/answer.rt:94:1
 same-length : tie.Need-same-length
 same-length c = search needs
 
--- src/answer.rt:94:1
 returns : tie.Need-returns
 returns c =
     let w = c .before .before .before .before .before .word-end in

@@ -1,14 +1,10 @@
-use borrow.Author.Needs.{needs}
+-- `answer::put_shown` meets its contract. The invariant: the buffer keeps its length.
 use mathlib.Core.Path.{_≡_}
 use Prim.Native.Nat.{_-_, _≤_}
 use lib.ListN.{length}
+use borrow.Author.Needs.{needs}
 use Rattle.text.proofs.answer.put_shown.Statement.{statement}
 use Rattle.text.proofs.answer.put_shown.Tie as tie
-use Rattle.text.proofs.answer.put_shown.Reads as reads
-use Rattle.text.proofs.answer.put_shown.Lts as lts
-use Rattle.text.proofs.answer.at_most_40.Reads as at-most-40-reads
-use Rattle.text.proofs.answer.shown.Reads as shown-reads
-use Rattle.text.proofs.write.put.Reads as put-reads
 
 abbrev Inv-loop : tie.InvT-loop
 Inv-loop out₀ at word n i₀ t6 out i = (i ≤ n) × (length out ≡ length out₀)
@@ -16,71 +12,54 @@ Inv-loop out₀ at word n i₀ t6 out i = (i ≤ n) × (length out ≡ length ou
 abbrev μ-loop : tie.MeasureT-loop
 μ-loop out₀ at word n i₀ t6 out i = n - i
 
--- src/answer.rt:199:9
 at-most-40-requires : tie.Need-at-most-40-requires Inv-loop μ-loop
 at-most-40-requires c κs = search needs
 
--- src/answer.rt:201:5
 loop-holds : tie.Need-loop-holds Inv-loop μ-loop
 loop-holds c = search needs
 
--- src/answer.rt:202:29
 shared-slice-read-shown : tie.Need-shared-slice-read-shown Inv-loop μ-loop
 shared-slice-read-shown c = search needs
 
--- src/answer.rt:202:23
 shown-requires : tie.Need-shown-requires Inv-loop μ-loop
 shown-requires c κs = search needs
 
--- src/answer.rt:202:13
 add-out : tie.Need-add-out Inv-loop μ-loop
 add-out c = search needs
 
--- src/answer.rt:202:9
 slice-write-out : tie.Need-slice-write-out Inv-loop μ-loop
 slice-write-out c = search needs
 
--- src/answer.rt:203:9
 add-i : tie.Need-add-i Inv-loop μ-loop
 add-i c = search needs
 
--- src/answer.rt:201:5
 loop-less : tie.Need-loop-less Inv-loop μ-loop
 loop-less c = search needs
 
--- src/answer.rt:201:5
 loop-again : tie.Need-loop-again Inv-loop μ-loop
 loop-again c = search needs
 
--- src/answer.rt:206:18
 add-put : tie.Need-add-put Inv-loop μ-loop
 add-put c = search needs
 
--- src/answer.rt:206:26
 slice-aggregate-put : tie.Need-slice-aggregate-put Inv-loop μ-loop
 slice-aggregate-put c = search needs
 
--- src/answer.rt:206:9
 put-requires : tie.Need-put-requires Inv-loop μ-loop
 put-requires c κs = search needs
 
--- src/answer.rt:208:9
 add-result : tie.Need-add-result Inv-loop μ-loop
 add-result c = search needs
 
--- src/answer.rt:195:1
 same-length : tie.Need-same-length Inv-loop μ-loop
 same-length c = search needs
 
--- src/answer.rt:195:1
 returns : tie.Need-returns Inv-loop μ-loop
 returns c = search needs
 
--- src/answer.rt:195:1
 same-length-2 : tie.Need-same-length-2 Inv-loop μ-loop
 same-length-2 c = search needs
 
--- src/answer.rt:195:1
 returns-2 : tie.Need-returns-2 Inv-loop μ-loop
 returns-2 c = search needs
 

@@ -1,3 +1,4 @@
+-- `call::held_call` meets its contract: both parts lie in the line.
 use mathlib.Core.Path.{sym}
 use native.Mathlib.Omega.{arith}
 use lib.ListN.{length-take}
@@ -5,32 +6,22 @@ use lib.Seq.{length-take-le}
 use borrow.Author.Needs.{needs}
 use Rattle.text.proofs.call.held_call.Statement.{statement}
 use Rattle.text.proofs.call.held_call.Tie as tie
-use Rattle.text.proofs.call.held_call.Reads as reads
-use Rattle.text.proofs.call.held_call.Lts as lts
-use Rattle.text.proofs.call.parse.Reads as parse-reads
-use Rattle.text.proofs.lines.without_return.Reads as without-return-reads
 
--- src/call.rt:74:9
 returns : tie.Need-returns
 returns c = search needs
 
--- src/call.rt:77:28
 slice-aggregate-without-return : tie.Need-slice-aggregate-without-return
 slice-aggregate-without-return c = sym (length-take-le _ _ (c .before .before .before .pre))
 
--- src/call.rt:77:9
 without-return-requires : tie.Need-without-return-requires
 without-return-requires c κs = search needs
 
--- src/call.rt:78:11
 slice-aggregate-parse : tie.Need-slice-aggregate-parse
 slice-aggregate-parse c = sym (length-take-le _ _ (omega (arith, length-take (c .before .before .before .before .before .args .held .len) (c .before .before .before .before .before .args .line .now), c .before .without-return .ensures)))
 
--- src/call.rt:78:5
 parse-requires : tie.Need-parse-requires
 parse-requires c κs = search needs
 
--- src/call.rt:70:1
 returns-2 : tie.Need-returns-2
 returns-2 c = search needs
 

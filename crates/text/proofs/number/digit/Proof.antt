@@ -1,50 +1,40 @@
+-- `number::digit` meets its contract: each return rewrites with the tests that led to it.
 use borrow.Author.Needs.{needs}
 use borrow.Author.Tests.{lt-ltb, le-ltb}
 use Rattle.text.specs.Number.{digitOf}
 use Rattle.text.proofs.number.digit.Statement.{statement}
 use Rattle.text.proofs.number.digit.Tie as tie
-use Rattle.text.proofs.number.digit.Reads as reads
-use Rattle.text.proofs.number.digit.Lts as lts
 
--- src/number.rt:75:9
 returns : tie.Need-returns
 unfolding digitOf
 returns c = simp (lt-ltb _ _ (c .if1 .taken))
 
--- src/number.rt:78:9
 returns-2 : tie.Need-returns-2
 unfolding digitOf
 returns-2 c = simp (le-ltb _ _ (c .before .if1 .left), lt-ltb _ _ (c .if2 .taken))
 
--- src/number.rt:81:9
 returns-3 : tie.Need-returns-3
 unfolding digitOf
 returns-3 c = simp (le-ltb _ _ (c .before .before .if1 .left), le-ltb _ _ (c .before .if2 .left), lt-ltb _ _ (c .if3 .taken))
 
--- src/number.rt:84:16
 sub-result : tie.Need-sub-result
 sub-result c = search needs
 
--- src/number.rt:84:9
 returns-4 : tie.Need-returns-4
 unfolding digitOf
 returns-4 c = simp (le-ltb _ _ (c .before .before .before .if1 .left), le-ltb _ _ (c .before .before .if2 .left), le-ltb _ _ (c .before .if3 .left), lt-ltb _ _ (c .if4 .taken))
 
--- src/number.rt:87:9
 returns-5 : tie.Need-returns-5
 unfolding digitOf
 returns-5 c = simp (le-ltb _ _ (c .before .before .before .before .if1 .left), le-ltb _ _ (c .before .before .before .if2 .left), le-ltb _ _ (c .before .before .if3 .left), le-ltb _ _ (c .before .if4 .left), lt-ltb _ _ (c .if5 .taken))
 
--- src/number.rt:89:18
 sub-result-2 : tie.Need-sub-result-2
 sub-result-2 c = search needs
 
--- src/number.rt:70:1
 returns-6 : tie.Need-returns-6
 unfolding digitOf
 returns-6 c = simp (le-ltb _ _ (c .before .before .before .before .before .if1 .left), le-ltb _ _ (c .before .before .before .before .if2 .left), le-ltb _ _ (c .before .before .before .if3 .left), le-ltb _ _ (c .before .before .if4 .left), le-ltb _ _ (c .before .if5 .left), lt-ltb _ _ (c .if6 .taken))
 
--- src/number.rt:70:1
 returns-7 : tie.Need-returns-7
 unfolding digitOf
 returns-7 c = simp (le-ltb _ _ (c .before .before .before .before .before .if1 .left), le-ltb _ _ (c .before .before .before .before .if2 .left), le-ltb _ _ (c .before .before .before .if3 .left), le-ltb _ _ (c .before .before .if4 .left), le-ltb _ _ (c .before .if5 .left), le-ltb _ _ (c .if6 .left))

@@ -1,15 +1,13 @@
-use native.Mathlib.Omega.{arith}
-use Rattle.text.specs.NumberLaws.{none-read, read-more, read-all}
-use borrow.Author.Needs.{needs}
+-- `number::read_digits` meets its contract. The invariant: what is left to read gives the same number.
 use mathlib.Core.Path.{_≡_, refl, _∙_}
 use Prim.Native.Nat.{_-_, _≤_}
+use native.Mathlib.Omega.{arith}
 use lib.ListN.{length, drop}
+use borrow.Author.Needs.{needs}
+use Rattle.text.specs.NumberLaws.{none-read, read-more, read-all}
 use Rattle.text.specs.Number.{fitting, reading}
 use Rattle.text.proofs.number.read_digits.Statement.{statement}
 use Rattle.text.proofs.number.read_digits.Tie as tie
-use Rattle.text.proofs.number.read_digits.Reads as reads
-use Rattle.text.proofs.number.read_digits.Lts as lts
-use Rattle.text.proofs.number.Number.with_digit.Reads as with-digit-reads
 
 abbrev Inv-loop : tie.InvT-loop
 Inv-loop digits base so-far₀ i₀ so-far i = (i ≤ length digits) × (reading base so-far (drop i digits) ≡ reading base (fitting 0) digits)
@@ -17,39 +15,31 @@ Inv-loop digits base so-far₀ i₀ so-far i = (i ≤ length digits) × (reading
 abbrev μ-loop : tie.MeasureT-loop
 μ-loop digits base so-far₀ i₀ so-far i = length digits - i
 
--- src/number.rt:36:9
 returns : tie.Need-returns Inv-loop μ-loop
 returns c = none-read (c .before .before .args .base) (c .before .before .args .digits .now) (c .if1 .taken)
 
--- src/number.rt:40:5
 loop-holds : tie.Need-loop-holds Inv-loop μ-loop
 unfolding fitting
 loop-holds c = (omega arith, refl)
 
--- src/number.rt:41:42
 shared-slice-read-with-digit : tie.Need-shared-slice-read-with-digit Inv-loop μ-loop
 shared-slice-read-with-digit c = search needs
 
--- src/number.rt:41:9
 with-digit-requires : tie.Need-with-digit-requires Inv-loop μ-loop
 with-digit-requires c κs = search needs
 
--- src/number.rt:42:9
 add-i : tie.Need-add-i Inv-loop μ-loop
 add-i c = search needs
 
--- src/number.rt:40:5
 loop-less : tie.Need-loop-less Inv-loop μ-loop
 loop-less c = search needs
 
--- src/number.rt:40:5
 loop-again : tie.Need-loop-again Inv-loop μ-loop
 loop-again c =
     let l = c .before .before .before in
     let a = l .before .before .before .args in
     (omega arith, read-more (a .base) (l .loop .so-far) (c .with-digit .result) (a .digits .now) (l .loop .i) (c .before .before .loop-test .taken) (c .with-digit .ensures) ∙ l .loop .inv .1)
 
--- src/number.rt:30:1
 returns-2 : tie.Need-returns-2 Inv-loop μ-loop
 returns-2 c =
     let a = c .before .before .before .before .args in

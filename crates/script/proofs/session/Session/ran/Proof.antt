@@ -1,16 +1,12 @@
-use native.Mathlib.Omega.{arith}
+-- `Session::ran` meets its contract. The invariant: the session is kept, and both buffers keep their lengths.
 use mathlib.Core.Path.{_≡_}
 use Prim.Native.Nat.{_-_, _≤_}
+use native.Mathlib.Omega.{arith}
 use lib.ListN.{length}
 use borrow.Author.Needs.{needs}
 use Rattle.script.specs.Session.{Kept}
 use Rattle.script.proofs.session.Session.ran.Statement.{statement}
 use Rattle.script.proofs.session.Session.ran.Tie as tie
-use Rattle.script.proofs.session.Session.ran.Reads as reads
-use Rattle.script.proofs.session.Session.ran.Lts as lts
-use Rattle.script.proofs.session.Session.gathered.Reads as gathered-reads
-use Rattle.script.proofs.session.Session.line_ended.Reads as line-ended-reads
-use Rattle.text.proofs.line_end.Reads as line-end-reads
 
 abbrev Inv-loop : tie.InvT-loop
 Inv-loop chunk line₀ out₀ session₀ at₀ line out session at =
@@ -19,67 +15,51 @@ Inv-loop chunk line₀ out₀ session₀ at₀ line out session at =
 abbrev μ-loop : tie.MeasureT-loop
 μ-loop chunk line₀ out₀ session₀ at₀ line out session at = length chunk - at
 
--- src/session.rt:75:9
 loop-holds : tie.Need-loop-holds Inv-loop μ-loop
 loop-holds c = search needs
 
--- src/session.rt:76:17
 line-end-requires : tie.Need-line-end-requires Inv-loop μ-loop
 line-end-requires c κs = search needs
 
--- src/session.rt:77:46
 sub-gathered : tie.Need-sub-gathered Inv-loop μ-loop
 sub-gathered c = search needs
 
--- src/session.rt:77:46
 part-gathered-start : tie.Need-part-gathered-start Inv-loop μ-loop
 part-gathered-start c = search needs
 
--- src/session.rt:77:46
 part-gathered-end : tie.Need-part-gathered-end Inv-loop μ-loop
 part-gathered-end c = search needs
 
--- src/session.rt:77:13
 gathered-requires : tie.Need-gathered-requires Inv-loop μ-loop
 gathered-requires c κs = search needs
 
--- src/session.rt:79:17
 same-length : tie.Need-same-length Inv-loop μ-loop
 same-length c = search needs
 
--- src/session.rt:79:17
 same-length-2 : tie.Need-same-length-2 Inv-loop μ-loop
 same-length-2 c = search needs
 
--- src/session.rt:79:17
 returns : tie.Need-returns Inv-loop μ-loop
 returns c = search needs
 
--- src/session.rt:81:13
 line-ended-requires : tie.Need-line-ended-requires Inv-loop μ-loop
 line-ended-requires c κs = search needs
 
--- src/session.rt:82:18
 add-at : tie.Need-add-at Inv-loop μ-loop
 add-at c = omega (arith, c .before .before .before .before .before .before .before .before .before .before .before)
 
--- src/session.rt:75:9
 loop-less : tie.Need-loop-less Inv-loop μ-loop
 loop-less c = search needs
 
--- src/session.rt:75:9
 loop-again : tie.Need-loop-again Inv-loop μ-loop
 loop-again c = search needs
 
--- src/session.rt:69:5
 same-length-3 : tie.Need-same-length-3 Inv-loop μ-loop
 same-length-3 c = search needs
 
--- src/session.rt:69:5
 same-length-4 : tie.Need-same-length-4 Inv-loop μ-loop
 same-length-4 c = search needs
 
--- src/session.rt:69:5
 returns-2 : tie.Need-returns-2 Inv-loop μ-loop
 returns-2 c = search needs
 

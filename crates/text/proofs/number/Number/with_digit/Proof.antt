@@ -1,78 +1,63 @@
+-- `Number::with_digit` meets its contract, one law for each way through it.
 use native.Mathlib.Omega.{arith}
-use Rattle.text.specs.NumberLaws.{too-high, stays-large, stays-none, fits, pushes, overflows}
 use borrow.Author.Needs.{needs}
+use Rattle.text.specs.NumberLaws.{too-high, stays-large, stays-none, fits, pushes, overflows}
 use Rattle.text.proofs.number.Number.with_digit.Statement.{statement}
 use Rattle.text.proofs.number.Number.with_digit.Tie as tie
-use Rattle.text.proofs.number.Number.with_digit.Reads as reads
-use Rattle.text.proofs.number.Number.with_digit.Lts as lts
-use Rattle.text.proofs.number.digit.Reads as digit-reads
 
--- src/number.rt:54:13
 digit-requires : tie.Need-digit-requires
 digit-requires c κs = search needs
 
--- src/number.rt:56:13
 returns : tie.Need-returns
 returns c =
     let a = c .before .before .args in
     too-high (a .base) (a .byte) (c .before .digit .result) (c .before .digit .ensures) (a .self) (c .if1 .taken)
 
--- src/number.rt:59:24
 enum-known-self : tie.Need-enum-known-self
 enum-known-self c = search needs
 
--- src/number.rt:60:30
 sub-if2 : tie.Need-sub-if2
 sub-if2 c = search needs
 
--- src/number.rt:60:29
 div-if2 : tie.Need-div-if2
 div-if2 c = search needs
 
--- src/number.rt:61:32
 mul-t12 : tie.Need-mul-t12
 mul-t12 c =
     let e = c .before .before .before .before .before .before in
     let d = c .before .before .before .before .before .digit in
     omega (arith, fits (e .args .base) (e .args .byte) (d .result) (d .ensures) (c .before .before .self .given .0 .0) (e .pre .0) (omega arith) (e .pre .1) (c .if2 .taken))
 
--- src/number.rt:61:32
 add-t13 : tie.Need-add-t13
 add-t13 c =
     let e = c .before .before .before .before .before .before in
     let d = c .before .before .before .before .before .digit in
     omega (arith, fits (e .args .base) (e .args .byte) (d .result) (d .ensures) (c .before .before .self .given .0 .0) (e .pre .0) (omega arith) (e .pre .1) (c .if2 .taken))
 
--- src/number.rt:66:33
 enum-told : tie.Need-enum-told
 enum-told c = search needs
 
--- src/number.rt:67:33
 enum-told-2 : tie.Need-enum-told-2
 enum-told-2 c = search needs
 
--- src/number.rt:49:5
 returns-2 : tie.Need-returns-2
 returns-2 c =
     let e = c .before .before .before .before .before .before in
     let d = c .before .before .before .before .before .digit in
     pushes (e .args .base) (e .args .byte) (d .result) (d .ensures) (c .before .before .self .given .0 .0) (e .pre .0) (omega arith) (e .pre .1) (e .args .self) (c .before .before .self .given .1) (c .if2 .taken)
 
--- src/number.rt:49:5
 returns-3 : tie.Need-returns-3
 returns-3 c =
     let e = c .before .before .before .before .before .before in
     let d = c .before .before .before .before .before .digit in
     overflows (e .args .base) (e .args .byte) (d .result) (d .ensures) (c .before .before .self .given .0 .0) (e .pre .0) (omega arith) (e .pre .1) (e .args .self) (c .before .before .self .given .1) (c .if2 .left)
 
--- src/number.rt:49:5
 returns-4 : tie.Need-returns-4
 returns-4 c =
     let a = c .before .before .before .before .args in
     let d = c .before .before .before .digit in
     stays-large (a .base) (a .byte) (d .result) (d .ensures) (a .self) (c .enum-told .given .1) (omega arith)
 
--- src/number.rt:49:5
 returns-5 : tie.Need-returns-5
 returns-5 c =
     let a = c .before .before .before .before .args in
