@@ -7,7 +7,7 @@ use crate::calls::ManagerCall;
 const COUNT: usize = 2;
 const FIRST: usize = 3;
 const WORDS: usize = FIRST + 2 * SEGMENTS;
-const RESULTS: usize = 4;
+pub const RESULTS: usize = 4;
 
 unsafe extern "C" {
     fn manager_new(words: *mut u64, n: usize, start: u64, size: u64) -> u64;
@@ -71,7 +71,7 @@ impl ProvedManager {
     }
 
     /// Answers the number that the library gives; 0 is success.
-    fn ask(&mut self, call: &ManagerCall, out: &mut [u64; RESULTS]) -> u64 {
+    pub fn ask(&mut self, call: &ManagerCall, out: &mut [u64; RESULTS]) -> u64 {
         let (w, o) = (self.words.as_mut_ptr(), out.as_mut_ptr());
         // SAFETY: each function reads and writes inside the two slices that it is lent.
         unsafe {
