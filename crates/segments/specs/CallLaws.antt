@@ -36,7 +36,8 @@ use Rattle.segments.specs.WordsLaws.{table-length}
 use Rattle.segments.specs.RuleLaws.{sound-tells}
 use Rattle.segments.specs.Tries.{by-test, ahead-le}
 use Rattle.segments.specs.PlaceLaws.{place-stands, place-absent, held-stored, stored-stored}
-use Rattle.segments.specs.ShiftLaws.{insert-length, removed-length}
+use Rattle.segments.specs.ShiftLaws.{removed-length}
+use Rattle.segments.specs.InsertLaws.{length-insert}
 use Rattle.segments.specs.LoopLaws.{held-length}
 use Rattle.segments.specs.CallWays.{point-done}
 use Rattle.segments.specs.CallTests.{Inside, inside-tells}
@@ -275,17 +276,17 @@ module _ (m : VirtualMemoryManager) (s : Segment) (at : VirtAddr) (f : Answered)
           once =
               one ∙ ap (λ x. stored x (insert (low s at) (held x))) out
               ∙ ap (λ t. stored (stored m (removedAt k (held m))) (insert (low s at) t)) (held-stored m (removedAt k (held m)))
-              ∙ stored-stored m (removedAt k (held m)) (insert (low s at) (removedAt k (held m))) (let l = insert-length (removedAt k (held m)) (low s at) in omega arith)
+              ∙ stored-stored m (removedAt k (held m)) (insert (low s at) (removedAt k (held m))) (let l = length-insert (low s at) (removedAt k (held m)) in omega arith)
 
           pub split-second : b .count < 64
-          split-second = subst (λ x. x .count < 64) (sym once) (let l = insert-length (removedAt k (held m)) (low s at) in let r = removed in omega arith)
+          split-second = subst (λ x. x .count < 64) (sym once) (let l = length-insert (low s at) (removedAt k (held m)) in let r = removed in omega arith)
 
         module _ (a b c : VirtualMemoryManager) (out : a ≡ stored m (removedAt k (held m))) (one : b ≡ stored a (insert (low s at) (held a))) (two : c ≡ stored b (insert (high s at) (held b))) where
           twice : c ≡ stored m (insert (high s at) (insert (low s at) (removedAt k (held m))))
           twice =
               two ∙ ap (λ x. stored x (insert (high s at) (held x))) (once a b out one)
               ∙ ap (λ t. stored (stored m (insert (low s at) (removedAt k (held m)))) (insert (high s at) t)) (held-stored m (insert (low s at) (removedAt k (held m))))
-              ∙ stored-stored m (insert (low s at) (removedAt k (held m))) (insert (high s at) (insert (low s at) (removedAt k (held m)))) (let l = insert-length (insert (low s at) (removedAt k (held m))) (high s at) in omega arith)
+              ∙ stored-stored m (insert (low s at) (removedAt k (held m))) (insert (high s at) (insert (low s at) (removedAt k (held m)))) (let l = length-insert (high s at) (insert (low s at) (removedAt k (held m))) in omega arith)
 
           pub split-done : record { answer = split.Parts (low s at) (high s at); manager = c } ≡ splitCall m s at
           unfolding splitCall
