@@ -5,5 +5,6 @@ pub mod Tables
 pub mod With
 pub mod Puts
 pub mod Scan
+pub mod Every
 pub mod Lookups
 pub mod Attached
