@@ -8,3 +8,6 @@ pub mod Scan
 pub mod Every
 pub mod Lookups
 pub mod Attached
+pub mod Backed
+pub mod NextEntry
+pub mod Walk

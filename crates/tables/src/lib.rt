@@ -1,5 +1,6 @@
 // The machine's tables among its lent words: rows are read and put by value, and nobody above sees a word.
 pub mod attached;
+pub mod backed;
 pub mod files;
 pub mod frames;
 pub mod lookup;
