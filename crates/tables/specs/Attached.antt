@@ -14,11 +14,10 @@ use Rattle.model.specs.declared.Process.{Process}
 use Rattle.model.specs.declared.Region.{Region}
 use Rattle.model.specs.declared.Found.the-variants.{At, Nothing}
 use Rattle.model.specs.Lists.{part}
-use Rattle.model.specs.Rows.{rows-length}
 use Rattle.model.specs.Layout.{machine}
 use Rattle.model.specs.Machine.{Machine, noProcess, noRegion, regionAt, orderOf}
 use Rattle.model.specs.Lookup.{firstSlot, isUsed, contains}
-use Rattle.tables.specs.Lookups.{part-length, part-at, regions-length}
+use Rattle.tables.specs.Lookups.{part-length, part-at, regions-length, order-length}
 
 -- whether the region in a slot of a process holds an address
 abbrev pub holdsAt : Machine → ℕ → ℕ → ℕ → Bool
@@ -52,11 +51,7 @@ contains-no-row w p s a h = none ∙ ap (λ r. contains r a) (sym (List·getD-eq
     none : false ≡ contains noRegion a
     none = sym (le-ltb (a - 0) 0 (omega arith)) ∙ contains-past noRegion a (omega arith)
 
-order-length : (w : List ℕ) → length (machine w .order) ≡ 512
-unfolding machine
-order-length w = rows-length _ 512
-
-places-length : (w : List ℕ) (p : ℕ) → p < 8 → length (part 64 p (machine w .order)) ≡ 64
+pub places-length : (w : List ℕ) (p : ℕ) → p < 8 → length (part 64 p (machine w .order)) ≡ 64
 places-length w p h = part-length (machine w .order) 64 p (rw order-length (omega arith))
 
 module _ (w : List ℕ) (p : ℕ) (h : p < 8) (q : Process) (read : q ≡ getD (machine w .processes) p noProcess) where
@@ -69,7 +64,7 @@ module _ (w : List ℕ) (p : ℕ) (h : p < 8) (q : Process) (read : q ≡ getD (
   attached-all l =
       sym (ap (λ (x : Process). length (take (x .attached) (part 64 p (machine w .order)))) (sym read) ∙ ap (λ x. length x) (take-all (q .attached) (part 64 p (machine w .order)) (rw places-length (omega arith))) ∙ places-length w p h)
 
-take-at : {A : Type 0} (n : ℕ) (l : List A) (i : ℕ) (d : A) → i < length (take n l) → getD (take n l) i d ≡ getD l i d
+pub take-at : {A : Type 0} (n : ℕ) (l : List A) (i : ℕ) (d : A) → i < length (take n l) → getD (take n l) i d ≡ getD l i d
 take-at zero l i d h = absurd (not-suc-le-zero h)
 take-at (suc n) [] i d h = refl
 take-at (suc n) (x ∷ l) zero d h = refl

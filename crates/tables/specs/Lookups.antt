@@ -41,6 +41,22 @@ pub regions-length : (w : List ℕ) → length (machine w .regions) ≡ 512
 unfolding machine
 regions-length w = rows-length _ 512
 
+pub order-length : (w : List ℕ) → length (machine w .order) ≡ 512
+unfolding machine
+order-length w = rows-length _ 512
+
+pub mapped-length : (w : List ℕ) → length (machine w .mapped) ≡ 1024
+unfolding machine
+mapped-length w = rows-length _ 1024
+
+pub backings-length : (w : List ℕ) → length (machine w .backings) ≡ 256
+unfolding machine
+backings-length w = rows-length _ 256
+
+pub files-length : (w : List ℕ) → length (machine w .files) ≡ 8
+unfolding machine
+files-length w = rows-length _ 8
+
 -- a process's part of a table: as long as it is to be, and row i of it is row p * n + i of the table
 pub part-length : {A : Type 0} (l : List A) (n p : ℕ) → p * n + n ≤ length l → length (part n p l) ≡ n
 unfolding part

@@ -7,3 +7,4 @@ pub mod lookup;
 pub mod pages;
 pub mod processes;
 pub mod regions;
+pub mod sizes;
