@@ -11,7 +11,7 @@ use borrow.Author.Tests.{lt-ltb, le-ltb, le-leb, lt-leb, eq-eqb, ne-eqb}
 use Rattle.model.specs.declared.Backing.{Backing}
 use Rattle.model.specs.declared.Pool.{Pool}
 use Rattle.model.specs.declared.Found.the-variants.{At, Nothing}
-use Rattle.model.specs.Rows.{rows-length}
+use Rattle.tables.specs.Lookups.{backings-length}
 use Rattle.model.specs.Layout.{machine}
 use Rattle.model.specs.Machine.{Machine, noBacking, withPool}
 use Rattle.model.specs.Backing.{backingAt, runFrom}
@@ -47,10 +47,6 @@ start-kept start i covered z = rw (eq-eqb covered 0 z)
 
 pub start-past : (start i covered : ℕ) → (covered ≡ 0 → ⊥) → i + 1 ≡ cond (eqb covered 0) start (i + 1)
 start-past start i covered n = rw (ne-eqb covered 0 n)
-
-pub backings-length : (w : List ℕ) → length (machine w .backings) ≡ 256
-unfolding machine
-backings-length w = rows-length _ 256
 
 module _ (w : List ℕ) (n : ℕ) (read : n ≡ machine w .frameCount) where
   pub rows-some : n < 256 → n ≡ length (framed (machine w))

@@ -24,7 +24,7 @@ use Rattle.pool.specs.Steps.{framed, inRun, freeAbove, lowestFree, lowes
 use Rattle.pool.specs.Search.{All, Run, run-of}
 use Rattle.pool.specs.Covered.{tells-covers}
 use Rattle.pool.specs.Split.{first-passes, first-none}
-use Rattle.pool.specs.Calls.{backings-length}
+use Rattle.tables.specs.Lookups.{backings-length}
 use Rattle.pool.specs.Pools.{Right, kept-pool, taken-pool, given-pool}
 
 -- a machine whose pool is right

@@ -14,6 +14,8 @@ pub use manager::ReserveAnswer;
 pub use manager::Reserved;
 pub use manager::SplitAnswer;
 pub use manager::SplitInto;
+pub use search::Search;
+pub use search::lowest_start;
 pub use segment::Answered;
 pub use segment::Segment;
 pub use table::VirtualMemoryManager;

@@ -40,7 +40,7 @@ pub(crate) fn find_overlapping_at(words: &[u64], count: usize, first: u64, last:
 
 // The lowest start from `start` on with `len` bytes free up to `mem_last`. It starts over just past the segment in its way;
 // the number of segments still ahead falls each time.
-pub(crate) fn lowest_start(
+pub fn lowest_start(
     words: &[u64],
     count: usize,
     mem_last: u64,

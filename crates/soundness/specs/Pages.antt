@@ -21,7 +21,7 @@ use Rattle.model.specs.SoundLaws.{tells-unit}
 use Rattle.model.specs.SoundTest.{freeMapping, pagedb}
 use Rattle.tables.specs.Lookups.{part-length, part-at, mapped-length}
 use Rattle.soundness.specs.Rest.{all-rows}
-use Rattle.soundness.specs.Taken.{taken-some, taken-all, taken-at, past-taken}
+use Rattle.soundness.specs.Taken.{taken-at, past-taken}
 
 abbrev pub below : Mapping → Mapping → Bool
 below x y = ltb (x .page .0) (y .page .0)
@@ -74,15 +74,6 @@ next-follows w p i h n x y e f =
 
 pub pages-length : (w : List ℕ) (p : ℕ) → p < 8 → length (part 128 p (machine w .mapped)) ≡ 128
 pages-length w p h = part-length (machine w .mapped) 128 p (rw mapped-length (omega arith))
-
-module _ (w : List ℕ) (p : ℕ) (h : p < 8) (q : Process) (read : q ≡ getD (machine w .processes) p noProcess) where
-  pub mapped-some : q .mapped < 128 → q .mapped ≡ length (mappedOf (machine w) p)
-  unfolding mappedOf
-  mapped-some l = taken-some (part 128 p (machine w .mapped)) 128 (q .mapped) (pages-length w p h) l ∙ ap (λ (x : Process). length (take (x .mapped) (part 128 p (machine w .mapped)))) read
-
-  pub mapped-all : 128 ≤ q .mapped → 128 ≡ length (mappedOf (machine w) p)
-  unfolding mappedOf
-  mapped-all l = taken-all (part 128 p (machine w .mapped)) 128 (q .mapped) (pages-length w p h) l ∙ ap (λ (x : Process). length (take (x .mapped) (part 128 p (machine w .mapped)))) read
 
 module _ (m : Machine) (p : ℕ) where
   pub page-follows : (i : ℕ) → i < length (mappedOf m p) → follows (part 128 p (m .mapped)) i (getD (part 128 p (m .mapped)) i noMapping) ≡ follows (mappedOf m p) i (getD (mappedOf m p) i noMapping)

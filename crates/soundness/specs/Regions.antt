@@ -66,4 +66,3 @@ good-checked n f e = ap isGood e ∙ both (goodFlags n)
     both : (b : Bool) → isGood (cond b (Good (record { 0 = n })) Bad) ≡ b
     both true = refl
     both false = refl
-

@@ -8,22 +8,8 @@ ghost use Rattle.model.specs.Machine.{noProcess, noMapping, mappedOf};
 ghost use Rattle.model.specs.SoundTest.{eachProcess, freeMapping, pagedb};
 ghost use Rattle.soundness.specs.Pages.{rising, follows};
 use model::Mapping;
+use paging::search::mapped_count;
 use tables::pages::mapping_at;
-use tables::processes::process_at;
-
-// How many pages of a process are mapped.
-pub fn mapped_count(words: &[u64], process: usize) -> usize
-    requires { ⌜ length (now words) ≡ wordCount ⌝ }
-    requires { ⌜ process < 8 ⌝ }
-    ensures { λ r. ⌜ r ≡ length (mappedOf (machine (now (words .entry))) process) ⌝ }
-    ensures { λ r. ⌜ r ≤ 128 ⌝ }
-{
-    let p = process_at(words, process);
-    if p.mapped < 128 {
-        return p.mapped as usize;
-    }
-    128
-}
 
 // Whether the page at a place is above the one before it.
 fn page_follows(words: &[u64], process: usize, place: usize) -> bool

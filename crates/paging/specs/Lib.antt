@@ -1,0 +1,19 @@
+-- What the mapper of the flat page table does, that it is what the model says, and what a page table means.
+
+-- the rows, the search, and what each function leaves
+pub mod Rows
+pub mod Place
+pub mod Mapper
+-- what the loops and the ways through the code know
+pub mod RowsLaws
+pub mod PutLaws
+pub mod MoveLaws
+pub mod PlaceLaws
+pub mod MapperSteps
+-- where pages rise and the rows past them are free: the model's operations
+pub mod OrderLaws
+pub mod PadLaws
+pub mod MapperLaws
+pub mod KeepLaws
+-- the meaning of a page table, of any form
+pub mod PageMap

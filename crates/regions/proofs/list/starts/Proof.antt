@@ -1,0 +1,59 @@
+-- `starts` fills in one start after the other. The invariant: so many stand there, and zeros after them.
+use mathlib.Core.Path.{refl}
+use Prim.Native.Nat.{_-_}
+use native.Mathlib.Omega.{arith}
+use borrow.Author.Needs.{needs}
+use Rattle.model.specs.Lists.{pad}
+use Rattle.regions.specs.Listing.{listed, Filled, filled-more, filled-all}
+use Rattle.regions.proofs.list.starts.Statement.{statement}
+use Rattle.regions.proofs.list.starts.Tie as tie
+
+abbrev Inv-loop : tie.InvT-loop
+Inv-loop words process n out₀ i₀ out i = Filled (listed words process) n out i
+
+abbrev μ-loop : tie.MeasureT-loop
+μ-loop words process n out₀ i₀ out i = n - i
+
+attached-count-requires : tie.Need-attached-count-requires Inv-loop μ-loop
+attached-count-requires c κs = search needs
+
+loop-holds : tie.Need-loop-holds Inv-loop μ-loop
+unfolding pad
+loop-holds c = (omega arith, (refl, refl))
+
+start-at-requires : tie.Need-start-at-requires Inv-loop μ-loop
+start-at-requires c κs = search needs
+
+mul-out : tie.Need-mul-out Inv-loop μ-loop
+mul-out c = omega arith
+
+array-write-out : tie.Need-array-write-out Inv-loop μ-loop
+array-write-out c = omega arith
+
+add-i : tie.Need-add-i Inv-loop μ-loop
+add-i c = omega arith
+
+loop-less : tie.Need-loop-less Inv-loop μ-loop
+loop-less c = omega arith
+
+loop-again : tie.Need-loop-again Inv-loop μ-loop
+loop-again c = filled-more (c .before .before .before .before .before .args .words .now) (c .before .before .before .before .before .args .process) _ (c .before .before .before .attached-count .ensures .0) (c .before .before .before .attached-count .ensures .1) _ _ (c .before .before .loop .inv) (omega arith) _ (c .start-at .ensures)
+
+returns : tie.Need-returns Inv-loop μ-loop
+returns c = filled-all (c .before .before .before .before .args .words .now) (c .before .before .before .before .args .process) _ (c .before .before .attached-count .ensures .0) (c .before .before .attached-count .ensures .1) _ _ (c .before .loop .inv) (omega arith)
+
+pub starts-spec : {M : Type 1} → statement M
+starts-spec =
+    tie.close
+    (tie.spec
+    Inv-loop
+    μ-loop
+    attached-count-requires
+    loop-holds
+    start-at-requires
+    mul-out
+    array-write-out
+    add-i
+    loop-less
+    loop-again
+    returns)

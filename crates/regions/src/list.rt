@@ -1,0 +1,45 @@
+// The list of a process's attached regions: their starts, in list order.
+ghost use mathlib.Core.Path.{_≡_};
+ghost use Prim.Native.Nat.{_+_, _*_, _<_};
+ghost use lib.ListN.{length, getD};
+ghost use Rattle.model.specs.Layout.{wordCount, machine};
+ghost use Rattle.model.specs.Machine.{orderOf, regionAt};
+ghost use Rattle.model.specs.Lookup.{startsOf};
+ghost use Rattle.model.specs.Answers.{listing};
+use crate::slot::region_in;
+use model::Done;
+use model::Listed;
+use tables::attached::attached_count;
+use tables::regions::order_at;
+
+// The start of the region at a place of list order.
+fn start_at(words: &[u64], process: usize, place: usize) -> u64
+    requires { ⌜ length (now words) ≡ wordCount ⌝ }
+    requires { ⌜ process < 8 ⌝ }
+    requires { ⌜ place < 64 ⌝ }
+    ensures { λ r. ⌜ r ≡ regionAt (machine (now (words .entry))) process (getD (machine (now (words .entry)) .order) (process * 64 + place) 0) .start .0 ⌝ }
+{
+    let slot = order_at(words, process * 64 + place) as usize;
+    let region = region_in(words, process, slot);
+    region.start.0
+}
+
+// The starts of a process's attached regions.
+pub fn starts(words: &[u64], process: usize) -> Listed
+    requires { ⌜ length (now words) ≡ wordCount ⌝ }
+    requires { ⌜ process < 8 ⌝ }
+    ensures { λ r. ⌜ r ≡ listing (startsOf (machine (now (words .entry))) process (orderOf (machine (now (words .entry))) process)) ⌝ }
+{
+    let n = attached_count(words, process);
+    let mut out = [0u64; 64];
+    let mut i = 0;
+    while i < n {
+        out[i] = start_at(words, process, i);
+        i += 1;
+    }
+    Listed {
+        done: Done::Yes,
+        count: n as u64,
+        starts: out,
+    }
+}

@@ -1,0 +1,43 @@
+// The region in a process's slot, whatever the slot's number.
+ghost use mathlib.Core.Path.{_≡_};
+ghost use Prim.Native.Nat.{_<_};
+ghost use lib.ListN.{length};
+ghost use Rattle.model.specs.Layout.{wordCount, machine};
+ghost use Rattle.model.specs.Machine.{noRegion, regionAt};
+use address::PageTableFlags;
+use address::PhysFrame;
+use address::VirtAddr;
+use model::Region;
+use tables::regions::region_at;
+
+// A free slot's row.
+fn no_region() -> Region
+    ensures { λ r. ⌜ r ≡ noRegion ⌝ }
+{
+    Region {
+        kind: 0,
+        start: VirtAddr(0),
+        size: 0,
+        flags: PageTableFlags(0),
+        fork: 0,
+        per_thread: 0,
+        pins: 0,
+        file: 0,
+        offset: 0,
+        length: 0,
+        ranged: 0,
+        range: PhysFrame(0),
+    }
+}
+
+// The region in a process's slot; past the last row there is none.
+pub fn region_in(words: &[u64], process: usize, slot: usize) -> Region
+    requires { ⌜ length (now words) ≡ wordCount ⌝ }
+    requires { ⌜ process < 8 ⌝ }
+    ensures { λ r. ⌜ r ≡ regionAt (machine (now (words .entry))) process slot ⌝ }
+{
+    if slot < 512 - process * 64 {
+        return region_at(words, process * 64 + slot);
+    }
+    no_region()
+}
