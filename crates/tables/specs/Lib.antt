@@ -11,3 +11,4 @@ pub mod Attached
 pub mod Backed
 pub mod NextEntry
 pub mod Walk
+pub mod Lent
