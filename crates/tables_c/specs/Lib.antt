@@ -1,0 +1,2 @@
+-- What the exported functions are stated and proved by.
+pub mod Lent
