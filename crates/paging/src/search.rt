@@ -59,7 +59,7 @@ pub fn place(words: &[u64], process: usize, page: Page) -> usize
 }
 
 // Whether a page is mapped in row i.
-fn stands_at(words: &[u64], process: usize, i: usize, page: Page) -> bool
+pub fn stands_at(words: &[u64], process: usize, i: usize, page: Page) -> bool
     requires { ⌜ length (now words) ≡ wordCount ⌝ }
     requires { ⌜ process < 8 ⌝ }
     ensures { λ r. ⌜ r ≡ standsAt (mappedOf (machine (now (words .entry))) process) i (page .0) ⌝ }

@@ -89,7 +89,7 @@ fn by_range(words: &[u64], region: Region, page: Page) -> Backed
 }
 
 // How many pages a page lies past a region's first; 0 below it.
-fn pages_past(region: Region, page: Page) -> u64
+pub fn pages_past(region: Region, page: Page) -> u64
     ensures { λ r. ⌜ r ≡ pagesPast region (page .0) ⌝ }
 {
     let first = region.start.0 / 4096;
