@@ -1,25 +1,4 @@
--- What the parts of the soundness test are proved by.
-pub mod Steps
-pub mod Zeros
-pub mod Sums
-pub mod Rest
-pub mod Taken
-pub mod Marks
-pub mod Sizes
-pub mod Processes
-pub mod Regions
-pub mod Entries
-pub mod Ordered
-pub mod Pages
-pub mod Apart
-pub mod Met
-pub mod MetLaws
-pub mod FreeFrames
-pub mod Meets
-pub mod Held
-pub mod HeldLaws
-pub mod Tally
-pub mod TallyLaws
-pub mod OnePage
-pub mod OnePageLaws
-pub mod HoldRows
+-- The soundness test on lent memory, and its stages.
+pub mod Lent
+pub mod Stages
+pub mod StageLaws
