@@ -1,0 +1,2 @@
+-- The answers of the exported calls as numbers.
+pub mod Numbers
