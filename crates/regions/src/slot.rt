@@ -11,7 +11,7 @@ use model::Region;
 use tables::regions::region_at;
 
 // A free slot's row.
-fn no_region() -> Region
+pub fn no_region() -> Region
     ensures { λ r. ⌜ r ≡ noRegion ⌝ }
 {
     Region {

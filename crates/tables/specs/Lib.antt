@@ -12,3 +12,5 @@ pub mod Backed
 pub mod NextEntry
 pub mod Walk
 pub mod Lent
+pub mod Guarded
+pub mod FirstOf

@@ -1,11 +1,11 @@
-// Look-ups through the tables: closed processes, free slots and page entries, lowest first, and the entry of a region's page.
+// Look-ups through the tables: open and closed processes, free slots and page entries, lowest first, and the entry of a region's page.
 ghost use mathlib.Core.Path.{_≡_};
 ghost use mathlib.Core.Bool.{cond};
 ghost use Prim.Native.Nat.{_<_, _≤_};
 ghost use lib.ListN.{length};
 ghost use lib.Dec.{eqb};
 ghost use Rattle.model.specs.Layout.{wordCount, machine};
-ghost use Rattle.model.specs.Lookup.{freeSlot, freeSlots, freeEntry, freeEntries};
+ghost use Rattle.model.specs.Lookup.{isOpen, freeSlot, freeSlots, freeEntry, freeEntries};
 ghost use Rattle.model.specs.Backing.{entryFor};
 ghost use Rattle.model.specs.Refusals.{closedRow};
 ghost use Rattle.tables.specs.Lookups.{entryOf};
@@ -15,6 +15,18 @@ use crate::regions::region_at;
 use address::Page;
 use model::Entry;
 use model::Found;
+
+// Whether there is an open process of this number.
+pub fn is_open(words: &[u64], process: u64) -> bool
+    requires { ⌜ length (now words) ≡ wordCount ⌝ }
+    ensures { λ r. ⌜ r ≡ isOpen (machine (now (words .entry))) process ⌝ }
+{
+    if process < 8 {
+        let row = process_at(words, process as usize);
+        return row.opened == 1;
+    }
+    false
+}
 
 // The lowest process that is not open.
 pub fn closed_process(words: &[u64]) -> Found
