@@ -30,6 +30,10 @@ pub record SoundFrames (words frames : List ℕ) : Type 0 where
 abbrev pub OnSound : {A : Type 0} → (State → After A) → List ℕ → A → Type 0
 OnSound call words r = (frames files : List ℕ) → soundb (stateOf words frames files) ≡ true → r ≡ call (stateOf words frames files) .answer
 
+-- the same with the frames at hand
+abbrev pub OnFrames : {A : Type 0} → (State → After A) → (words frames : List ℕ) → A → Type 0
+OnFrames call words frames r = (files : List ℕ) → soundb (stateOf words frames files) ≡ true → r ≡ call (stateOf words frames files) .answer
+
 -- what a core answers and leaves: on a sound machine, as the call
 abbrev pub Does : {A : Type 0} → (State → After A) → (words frames words' frames' : List ℕ) → A → Type 0
 Does call words frames words' frames' r = (files : List ℕ) → soundb (stateOf words frames files) ≡ true → call (stateOf words frames files) ≡ leaving r (stateOf words' frames' files)
