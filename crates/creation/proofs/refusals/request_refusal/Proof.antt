@@ -9,7 +9,6 @@ use Rattle.creation.proofs.refusals.request_refusal.Tie as tie
 use Rattle.creation.proofs.refusals.has_bad_flags.Reads as has-bad-flags-reads
 use Rattle.creation.proofs.refusals.is_bad_range.Reads as is-bad-range-reads
 use Rattle.creation.proofs.refusals.is_bad_start.Reads as is-bad-start-reads
-use Rattle.creation.proofs.refusals.is_open.Reads as is-open-reads
 use Rattle.creation.proofs.refusals.names_no_file.Reads as names-no-file-reads
 
 is-open-requires : tie.Need-is-open-requires
