@@ -61,6 +61,10 @@ pub fn generate(seed: &str, calls: &str, kind: &str) -> Done {
 enum Second {
     Manager(fn() -> Manager),
     Machine(fn() -> PlainMachine),
+    /// The proved machine, on the calls that it answers, or among all calls.
+    Proved {
+        among_all: bool,
+    },
 }
 
 type Manager = Box<dyn FnMut(&ManagerCall) -> Answer>;
@@ -73,8 +77,8 @@ pub fn compare(words: &[&str]) -> Done {
         [name] => second(name),
         _ => return Err("one second answerer at a time".into()),
     };
-    let second = second.ok_or(NOT_LINKED)?;
-    each_seed(&words, |seed, calls| match second {
+    let second = second.filter(is_linked).ok_or(NOT_LINKED)?;
+    each_seed(&words, "--calls", |seed, calls| match second {
         Second::Manager(make) => {
             let compared = compare_managers(seed, calls, &make);
             compared
@@ -84,7 +88,27 @@ pub fn compare(words: &[&str]) -> Done {
         Second::Machine(make) => compare_machines(seed, calls, make)
             .map(|totals| format!("{totals}, no difference"))
             .map_err(|finding| finding.to_string()),
+        Second::Proved { among_all } => proved_machine(seed, calls, among_all),
     })
+}
+
+/// Whether the library of this answerer has what it takes.
+fn is_linked(second: &Second) -> bool {
+    cfg!(proved_machine_calls) || !matches!(second, Second::Proved { .. })
+}
+
+#[cfg(proved_machine_calls)]
+fn proved_machine(seed: u64, calls: usize, among_all: bool) -> Result<String, String> {
+    use oracle::compare::{Drawn, compare_proved};
+    let drawn = if among_all { Drawn::All } else { Drawn::Set };
+    compare_proved(seed, calls, drawn)
+        .map(|compared| compared.to_string())
+        .map_err(|finding| finding.to_string())
+}
+
+#[cfg(not(proved_machine_calls))]
+fn proved_machine(_: u64, _: usize, _: bool) -> Result<String, String> {
+    Err(NOT_LINKED.into())
 }
 
 pub fn short(words: &[&str]) -> Done {
@@ -114,6 +138,8 @@ fn second(name: &str) -> Option<Second> {
         "--wrong-manager" => Some(Second::Manager(wrong_manager)),
         "--plain-machine" => Some(Second::Machine(PlainMachine::new)),
         "--wrong-machine" => Some(Second::Machine(PlainMachine::wrong)),
+        "--proved-machine" => Some(Second::Proved { among_all: false }),
+        "--proved-among-all" => Some(Second::Proved { among_all: true }),
         _ => None,
     }
 }
@@ -142,15 +168,27 @@ fn proved() -> Option<fn() -> Manager> {
 }
 
 pub fn check(words: &[&str]) -> Done {
-    each_seed(words, |seed, calls| {
+    each_seed(words, "--calls", |seed, calls| {
         check_machine(seed, calls)
             .map(|totals| format!("{totals}, no panic, every rule kept"))
             .map_err(|finding| finding.to_string())
     })
 }
 
+#[cfg(proved_machine)]
+pub fn damage(words: &[&str]) -> Done {
+    each_seed(words, "--times", |seed, times| {
+        oracle::damage::damage(seed, times).map(|totals| totals.to_string())
+    })
+}
+
+#[cfg(not(proved_machine))]
+pub fn damage(_: &[&str]) -> Done {
+    Err(NOT_LINKED.into())
+}
+
 pub fn panics(words: &[&str]) -> Done {
-    each_seed(words, |seed, calls| {
+    each_seed(words, "--calls", |seed, calls| {
         let mut text = String::from("these panics of the Rust");
         for panic in find_panics(seed, calls).values() {
             let script = panic.script.join("\n    ");
@@ -163,15 +201,19 @@ pub fn panics(words: &[&str]) -> Done {
     })
 }
 
-/// Runs `work` on each seed, with the calls that `--calls` asks for, and tells how long it took.
-fn each_seed<E: Display>(words: &[&str], work: impl Fn(u64, usize) -> Result<String, E>) -> Done {
-    let (calls, seeds) = match words {
-        ["--calls", calls, seeds @ ..] => (number(calls)?, seeds),
+/// Runs `work` on each seed, as often as `option` asks for, and tells how long it took.
+fn each_seed<E: Display>(
+    words: &[&str],
+    option: &str,
+    work: impl Fn(u64, usize) -> Result<String, E>,
+) -> Done {
+    let (times, seeds) = match words {
+        [name, times, seeds @ ..] if *name == option => (number(times)?, seeds),
         seeds => (100_000, seeds),
     };
     for seed in seeds {
         let begun = Instant::now();
-        let result = work(number(seed)?, calls as usize);
+        let result = work(number(seed)?, times as usize);
         let seconds = begun.elapsed().as_secs_f64();
         match result {
             Ok(text) => println!("seed {seed}, {seconds:.3} s: {text}"),

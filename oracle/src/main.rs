@@ -12,7 +12,8 @@ const USAGE: &str = "usage:
       --plain-machine, --wrong-machine
   oracle short [SECOND]                           compares managers on all short sequences
   oracle check [--calls N] SEED..                 runs the machine: no panic, rules R1 to R6 kept
-  oracle panics [--calls N] SEED..                finds the Rust's panics outside the domain";
+  oracle panics [--calls N] SEED..                finds the Rust's panics outside the domain
+  oracle damage [--times N] SEED..                damages sound words: the library's verdict beside a check";
 
 fn main() -> ExitCode {
     let words: Vec<String> = std::env::args().skip(1).collect();
@@ -26,6 +27,7 @@ fn main() -> ExitCode {
         ["short", ref rest @ ..] => commands::short(rest),
         ["check", ref rest @ ..] => commands::check(rest),
         ["panics", ref rest @ ..] => commands::panics(rest),
+        ["damage", ref rest @ ..] => commands::damage(rest),
         _ => Err(USAGE.into()),
     };
     done.unwrap_or_else(|what| {

@@ -95,6 +95,35 @@ pub enum MachineCall {
 }
 
 impl MachineCall {
+    /// The first word of its line.
+    #[must_use]
+    pub fn name(&self) -> &'static str {
+        match self {
+            Self::File { .. } => "file",
+            Self::Start { .. } => "start",
+            Self::Open { .. } => "open",
+            Self::Close { .. } => "close",
+            Self::Create(_) => "create",
+            Self::Remove { .. } => "remove",
+            Self::Clear { .. } => "clear",
+            Self::Carve { .. } => "carve",
+            Self::Covers { .. } => "covers",
+            Self::Region { .. } => "region",
+            Self::Regions { .. } => "regions",
+            Self::Fault { .. } => "fault",
+            Self::Populate { .. } => "populate",
+            Self::Eager { .. } => "eager",
+            Self::CloneRegion { .. } => "clone_region",
+            Self::Clone { .. } => "clone",
+            Self::Protect { .. } => "protect",
+            Self::Pin { .. } => "pin",
+            Self::Unpin { .. } => "unpin",
+            Self::Load { .. } => "load",
+            Self::Store { .. } => "store",
+            Self::State => "state",
+        }
+    }
+
     /// The call of this name, or nothing where the name is another's.
     ///
     /// # Errors

@@ -12,7 +12,7 @@ use crate::plain::PlainMachine;
 use crate::rules;
 
 /// The tables are compared after each call, the frames' bytes after so many.
-const BYTES_EVERY: usize = 8;
+pub const BYTES_EVERY: usize = 8;
 
 /// What a run over random sequences went through.
 #[derive(Debug, Default)]

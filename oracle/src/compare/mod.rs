@@ -3,13 +3,18 @@
 mod machine;
 mod manager;
 mod panics;
+#[cfg(proved_machine_calls)]
+mod proved;
 mod short;
 mod shrink;
 
-pub use machine::{Totals, check_machine, compare_machines};
+pub use machine::{Totals, check_machine, compare_machines, is_script, with_files};
 pub use manager::compare_managers;
 pub use panics::{Panics, find_panics};
+#[cfg(proved_machine_calls)]
+pub use proved::{Compared, Drawn, compare_proved};
 pub use short::compare_short;
+pub use shrink::shrink;
 
 use std::fmt;
 

@@ -74,6 +74,18 @@ impl Machine {
     }
 }
 
+impl Machine {
+    /// The bytes of all frames, one frame after the other.
+    #[must_use]
+    pub fn frame_bytes(&self) -> Vec<u8> {
+        let mut all = Vec::with_capacity(self.frames * phys::FRAME_BYTES);
+        for frame in 0..self.frames {
+            phys::with_bytes(frame, |bytes| all.extend_from_slice(bytes));
+        }
+        all
+    }
+}
+
 #[must_use]
 pub fn sum(bytes: &[u8]) -> u32 {
     let step = |sum: u32, byte: &u8| sum.wrapping_mul(31).wrapping_add(u32::from(*byte) + 1);

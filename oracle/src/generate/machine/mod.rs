@@ -1,6 +1,7 @@
 //! Random calls of the machine: sequences, each from an empty machine, that stay near the regions
 //! that there are.
 
+mod set;
 mod values;
 
 use crate::calls::{Create, Kind, MachineCall, Marks};
@@ -62,8 +63,11 @@ pub struct MachineScript {
     random: Random,
     model: PlainMachine,
     wild: bool,
+    /// The calls of the proved machine alone.
+    set: bool,
     mood: Mood,
     arena: (u64, u64),
+    frames: u64,
     left: u64,
 }
 
@@ -78,8 +82,10 @@ impl MachineScript {
             random: Random::new(seed),
             model,
             wild: false,
+            set: false,
             mood: Mood::Mixed,
             arena: ARENAS[0],
+            frames: 0,
             left: 0,
         }
     }
@@ -89,6 +95,15 @@ impl MachineScript {
     pub fn wild(seed: u64) -> Self {
         Self {
             wild: true,
+            ..Self::new(seed)
+        }
+    }
+
+    /// Sequences of the calls that the proved machine answers.
+    #[must_use]
+    pub fn of_set(seed: u64) -> Self {
+        Self {
+            set: true,
             ..Self::new(seed)
         }
     }
@@ -141,6 +156,9 @@ impl MachineScript {
         } else {
             self.random.pick(&moods)
         };
+        if self.set && self.mood == Mood::Wide {
+            self.mood = Mood::Mixed;
+        }
         let full = matches!(self.mood, Mood::Crowded | Mood::Wide);
         self.arena = if full {
             ARENAS[0]
@@ -160,6 +178,7 @@ impl MachineScript {
         } else {
             frames
         };
+        self.frames = frames;
         MachineCall::Start { frames }
     }
 
@@ -177,6 +196,7 @@ impl MachineScript {
         }
         let p = self.process();
         match self.mood {
+            _ if self.set => self.set_call(p),
             Mood::Crowded if !self.random.once_in(3) => self.create(p),
             Mood::Wide if !self.random.once_in(3) => self.wide_call(p),
             _ if self.random.once_in(4) => self.list_call(p),
