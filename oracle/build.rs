@@ -24,7 +24,7 @@ const MACHINE: Library = Library {
     cfg: "proved_machine",
 };
 /// A function that the machine's library has once it has all calls, and what is then set.
-const LAST_CALL: &str = "machine_load";
+const LAST_CALL: &str = "machine_regions";
 const CALLS_CFG: &str = "proved_machine_calls";
 
 fn main() {

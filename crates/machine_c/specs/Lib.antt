@@ -1,2 +1,3 @@
--- The answers of the exported calls as numbers.
+-- The answers of the exported calls as numbers and words.
 pub mod Numbers
+pub mod Out
