@@ -1,5 +1,5 @@
-// The soundness test: whether lent memory is a machine that keeps R1 to R6. It takes any words, frames and files, reads them
-// once or twice, and has less than 1 KB of marks on the stack at any time.
+// The soundness test: whether lent memory is a machine that keeps R1 to R6. It takes any words, frames and files, and has
+// less than 1 KB of marks on the stack at any time.
 ghost use mathlib.Core.Path.{_≡_};
 ghost use Prim.Native.Nat.{_≤_};
 ghost use lib.ListN.{length};
