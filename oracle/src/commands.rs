@@ -41,20 +41,22 @@ pub fn generate(seed: &str, calls: &str, kind: &str) -> Done {
             let mut script = ManagerScript::new(seed);
             Box::new((0..calls).map(move |_| script.next_call().to_string()))
         }
-        "machine" => {
-            let mut script = MachineScript::new(seed);
-            let files = MachineScript::files()
-                .into_iter()
-                .map(|file| file.to_string());
-            Box::new(files.chain((0..calls).map(move |_| script.next_call().to_string())))
-        }
-        _ => return Err(format!("neither manager nor machine: {kind}")),
+        "machine" => Box::new(machine_lines(MachineScript::new(seed), calls)),
+        "proved" => Box::new(machine_lines(MachineScript::of_set(seed), calls)),
+        _ => return Err(format!("neither manager, machine nor proved: {kind}")),
     };
     let mut output = BufWriter::new(io::stdout().lock());
     for line in lines {
         writeln!(output, "{line}").map_err(|e| e.to_string())?;
     }
     Ok(ExitCode::SUCCESS)
+}
+
+/// The files that are lent, and then random calls.
+fn machine_lines(mut script: MachineScript, calls: u64) -> impl Iterator<Item = String> {
+    let files = MachineScript::files();
+    let files = files.into_iter().map(|file| file.to_string());
+    files.chain((0..calls).map(move |_| script.next_call().to_string()))
 }
 
 /// The second answerer of a comparison.

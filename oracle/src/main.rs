@@ -6,7 +6,7 @@ use std::process::ExitCode;
 
 const USAGE: &str = "usage:
   oracle script [--unguarded] FILE|-              answers a script of calls
-  oracle generate SEED CALLS [manager|machine]    writes a random script
+  oracle generate SEED CALLS [manager|machine|proved]  writes a random script
   oracle compare [--calls N] [SECOND] SEED..      compares the Rust with a second answerer:
       the proved manager that is linked, or --plain-manager, --wrong-manager,
       --plain-machine, --wrong-machine
