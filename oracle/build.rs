@@ -23,6 +23,11 @@ const MACHINE: Library = Library {
     file: "libmachine_c.a",
     cfg: "proved_machine",
 };
+const CORES: Library = Library {
+    variable: "JHIL_CORES_LIB",
+    file: "libcores_c.a",
+    cfg: "proved_cores",
+};
 /// A function that the machine's library has once it has all calls, and what is then set.
 const LAST_CALL: &str = "machine_regions";
 const CALLS_CFG: &str = "proved_machine_calls";
@@ -32,6 +37,7 @@ fn main() {
     fs::create_dir_all(FOLDER).expect("the target folder is writable");
     println!("cargo::rerun-if-changed={FOLDER}");
     link(&SEGMENTS);
+    link(&CORES);
     if let Some(machine) = link(&MACHINE)
         && names(&machine, LAST_CALL)
     {

@@ -63,7 +63,7 @@ mod timed {
 
     fn machines() {
         println!(
-            "machine   regions  entries  mapped     sound  checked load  Rust's load  tree look-up  sound/Rust's  load/Rust's"
+            "machine   regions  entries  mapped     sound  checked load  bare load  Rust's load  tree look-up  sound/Rust's  load/Rust's  bare/Rust's"
         );
         machine("empty", &NOTHING);
         machine("middle", &MIDDLE);
@@ -78,16 +78,19 @@ mod timed {
         let addr = addresses.last().copied().unwrap_or(16 * PAGE);
         let process = amounts.processes.max(1) - 1;
         let load = checked_load(&lent, process, addr, addresses.is_empty());
+        let bare = bare_load(&lent, process, addr, addresses.is_empty());
         let rust = rust_load(addresses.len() as u64);
         let tree = tree_look_up(&addresses, addr);
         println!(
-            "{name:<8}  {:>7}  {:>7}  {:>6}  {sound:>8.0}  {:>12}  {rust:>11.1}  {tree:>12.1}  {:>12.0}  {:>11}",
+            "{name:<8}  {:>7}  {:>7}  {:>6}  {sound:>8.0}  {:>12}  {:>9}  {rust:>11.1}  {tree:>12.1}  {:>12.0}  {:>11}  {:>11}",
             amounts.processes * amounts.regions,
             amounts.processes * amounts.regions * amounts.entries,
             amounts.processes * amounts.regions * amounts.mapped,
             text(load, 0),
+            text(bare, 1),
             sound / rust,
             text(load.map(|load| load / rust), 0),
+            text(bare.map(|bare| bare / rust), 2),
         );
     }
 
@@ -165,6 +168,24 @@ mod timed {
     /// The library has no calls yet.
     #[cfg(not(proved_machine_calls))]
     fn checked_load(_: &Lent, _: u64, _: u64, _: bool) -> Option<f64> {
+        None
+    }
+
+    /// A load's core without the test: a page's loads with one test for all, less the test.
+    #[cfg(proved_cores)]
+    fn bare_load(lent: &Lent, p: u64, addr: u64, refused: bool) -> Option<f64> {
+        let loads = |times: u64| {
+            least(|| {
+                let sum = black_box(lent).loads(p, black_box(addr), black_box(times));
+                assert!(refused || sum == 7 * times);
+            })
+        };
+        Some((loads(PAGE) - loads(0)) / PAGE as f64)
+    }
+
+    /// The library of cores is not linked.
+    #[cfg(not(proved_cores))]
+    fn bare_load(_: &Lent, _: u64, _: u64, _: bool) -> Option<f64> {
         None
     }
 

@@ -11,6 +11,21 @@ unsafe extern "C" {
     ) -> u64;
 }
 
+#[cfg(proved_cores)]
+unsafe extern "C" {
+    fn cores_loads(
+        words: *const u64,
+        words_len: usize,
+        frames: *const u8,
+        frames_len: usize,
+        files: *const u8,
+        files_len: usize,
+        process: u64,
+        addr: u64,
+        times: u64,
+    ) -> u64;
+}
+
 /// The three slices of a machine.
 #[derive(Clone, Debug, Default, PartialEq, Eq)]
 pub struct Lent {
@@ -33,6 +48,27 @@ impl Lent {
                 f.len(),
                 b.as_ptr(),
                 b.len(),
+            )
+        }
+    }
+
+    /// The sum of the bytes that a process loads at so many addresses from one on, with one test for all of them.
+    #[cfg(proved_cores)]
+    #[must_use]
+    pub fn loads(&self, process: u64, addr: u64, times: u64) -> u64 {
+        let (w, f, b) = (&self.words, &self.frames, &self.files);
+        // SAFETY: as above.
+        unsafe {
+            cores_loads(
+                w.as_ptr(),
+                w.len(),
+                f.as_ptr(),
+                f.len(),
+                b.as_ptr(),
+                b.len(),
+                process,
+                addr,
+                times,
             )
         }
     }

@@ -1,0 +1,2 @@
+-- What the exported function is stated by.
+pub mod Loads
