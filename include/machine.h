@@ -1,7 +1,7 @@
 /* The machine of processes, regions and frames on lent memory; crates/machine_c has the calls and their proofs.
  *
- * A machine is 11,844 words, the bytes of its frames (4,096 times 0 to 256) and the bytes of its files. `out` is one word; each call that
- * has it sets it: to what is named below, and to zero on a refusal. The list of regions is not exported yet.
+ * A machine is 11,844 words, the bytes of its frames (4,096 times 0 to 256) and the bytes of its files. `out` is one word, of the list of
+ * regions 65 words; each call that has it sets all of it: to what is named below, and to zeros on a refusal.
  *
  * Each call answers 0, or the number of its refusal: 1 BadTable (the memory is no sound machine, or a length is wrong), 2 NoProcess,
  * 3 BadAddress, 4 BadRange, 5 BadFlags, 6 NoFile, 7 NoRegion, 8 NoSpace, 9 SegmentReserved, 14 OutOfMemory, 20 InUse, 21 TableFull,
@@ -16,6 +16,7 @@
 
 #define MACHINE_WORDS 11844
 #define MACHINE_FRAME 4096
+#define MACHINE_REGIONS 65
 
 #ifdef __cplusplus
 extern "C" {
@@ -59,6 +60,11 @@ uint64_t machine_create_shared(uint64_t *words, size_t words_len, uint8_t *frame
 /* Answers the start of the attached region at an address, out[0]; refuses 1, 2, 3 and 7. */
 uint64_t machine_region(const uint64_t *words, size_t words_len, const uint8_t *frames, size_t frames_len, const uint8_t *files,
                         size_t files_len, uint64_t process, uint64_t addr, uint64_t *out, size_t out_len);
+
+/* Sets out[0] to how many regions of a process are attached, and the words behind it to their starts in list order, then zeros: `out` is
+ * MACHINE_REGIONS words. Refuses 1 and 2. */
+uint64_t machine_regions(const uint64_t *words, size_t words_len, const uint8_t *frames, size_t frames_len, const uint8_t *files,
+                         size_t files_len, uint64_t process, uint64_t *out, size_t out_len);
 
 /* Sets out[0] to 1 if every address from `start` up to `end` lies in an attached region, else to 0; refuses 1 and 2. */
 uint64_t machine_covers(const uint64_t *words, size_t words_len, const uint8_t *frames, size_t frames_len, const uint8_t *files,

@@ -2,7 +2,6 @@
 pub mod RefusalLaws
 pub mod SoundLaws
 pub mod LookLaws
-pub mod SearchLaws
 pub mod MappedLaws
 pub mod AccessLaws
 pub mod OpenLaws

@@ -23,7 +23,7 @@ use Rattle.model.specs.Backing.{backingAt, backing, entryFor}
 use Rattle.model.specs.Sound.{Sound, Homed, frameBy}
 use Rattle.tables.specs.Lookups.{entryOf}
 use Rattle.tables.specs.Backed.{byEntry, byRange, elseBy, pagesPast, backing-by}
-use Rattle.cores.specs.SearchLaws.{first-found}
+use Rattle.tables.specs.SearchLaws.{first-found}
 
 never-mapped : {x : Mapping} → NotMapped ≡ Mapped x → ⊥
 never-mapped {x} e = let z : _≡_ {A = ℕ} 0 1 = cc in omega arith

@@ -25,7 +25,7 @@ use Rattle.tables.specs.Lent.{stateOf, wordsAlone, DoesWords}
 use Rattle.tables.specs.Lookups.{processes-length, closed}
 use Rattle.tables.specs.FirstOf.{first-here, first-later, first-none, not-no, not-yes}
 use Rattle.tables.specs.Guarded.{refused, granted}
-use Rattle.cores.specs.SearchLaws.{first-found}
+use Rattle.tables.specs.SearchLaws.{first-found}
 
 -- ---- the arena
 

@@ -1,18 +1,12 @@
--- The first c rows of a list, where c may be more than there are: their number, the rows, and those past them.
-use mathlib.Core.Path.{_≡_, refl, ap, sym, _∙_}
+-- The first c rows of a list, where c may be more than there are: the rows, and those past them.
+use mathlib.Core.Path.{_≡_, refl}
 use mathlib.Core.List.{List, [], _∷_}
-use Prim.Native.Nat.{ℕ, zero, suc, _≤_, _<_}
+use Prim.Native.Nat.{ℕ, zero, suc, _<_}
 use native.Mathlib.Omega.{arith}
 use lib.ListN.{length, getD, take, drop, length-take}
-use lib.Seq.{getD-take, length-take-le, take-all}
+use lib.Seq.{getD-take}
 
 module _ {A : Type 0} where
-  pub taken-some : (l : List A) (n c : ℕ) → length l ≡ n → c < n → c ≡ length (take c l)
-  taken-some l n c s h = sym (length-take-le c l (rw s (omega arith)))
-
-  pub taken-all : (l : List A) (n c : ℕ) → length l ≡ n → n ≤ c → n ≡ length (take c l)
-  taken-all l n c s h = sym (ap (λ x. length x) (take-all c l (rw s h)) ∙ s)
-
   pub taken-at : (c : ℕ) (l : List A) (i : ℕ) (d : A) → i < length (take c l) → getD (take c l) i d ≡ getD l i d
   taken-at c l i d h = getD-take c l i d below
     where

@@ -17,6 +17,7 @@ use Rattle.model.specs.Lookup.{count, isUsed, isRanged, isShared}
 use Rattle.model.specs.Create.{one}
 use Rattle.model.specs.Sound.{Hold, entryHolds, rangeHolds, holds, holdersOf}
 use Rattle.tables.specs.Lookups.{entries-length, regions-length}
+use Rattle.tables.specs.SearchLaws.{count-append}
 use Rattle.holds.specs.declared.held.Held.{Held}
 use Rattle.holds.specs.Held.{placeOf, entryHeld, rangeHeld, noHeld, heldRows}
 
@@ -85,15 +86,6 @@ module _ (w : List ℕ) (k : ℕ) (x : Held) where
       p ∙ ap rangeHeld read ∙ sym (past-append (map entryHeld (machine w .entries)) (map rangeHeld (machine w .regions)) k 512 noHeld (entry-rows w) h ∙ List·getD-map rangeHeld (machine w .regions) (k - 512) noRegion)
 
 -- ---- counted
-
-count-append : {A : Type 0} (p : A → Bool) (l r : List A) → count p (l ++ r) ≡ count p l + count p r
-unfolding count
-count-append p [] r = omega arith
-count-append p (x ∷ l) r = go (p x) (count-append p l r)
-  where
-    go : (b : Bool) → count p (l ++ r) ≡ count p l + count p r → cond b (count p (l ++ r) + 1) (count p (l ++ r)) ≡ cond b (count p l + 1) (count p l) + count p r
-    go true e = omega arith
-    go false e = e
 
 -- those that are kept, counted among all
 count-kept :

@@ -10,7 +10,7 @@ ghost use Rattle.model.specs.declared.Opened.the-variants as opened;
 ghost use Rattle.model.specs.declared.Placed.the-variants as placed;
 ghost use Rattle.model.specs.declared.Covering.the-variants as covering;
 ghost use Rattle.model.specs.declared.Loaded.the-variants as loaded;
-ghost use Rattle.model.specs.Answers.{ofDone, ofOpened, ofPlaced, ofCovering, ofLoaded};
+ghost use Rattle.model.specs.Answers.{ofDone, ofOpened, ofPlaced, ofCovering, ofLoaded, ofListed, notListed};
 ghost use Rattle.model.specs.Calls as model;
 ghost use Rattle.soundness.specs.Lent.{soundLent};
 ghost use Rattle.cores.specs.Start.{Starts};
@@ -25,6 +25,7 @@ use model::Place;
 use soundness::is_sound;
 use told::tell_covering;
 use told::tell_done;
+use told::tell_listed;
 use told::tell_loaded;
 use told::tell_opened;
 use told::tell_placed;
@@ -98,6 +99,23 @@ pub extern "C" fn machine_region(
         calls::region(words, frames, files, process, VirtAddr(addr)),
         out,
     )
+}
+
+// The starts of a process's attached regions, in list order: their count is out[0], the starts stand behind it, then zeros.
+#[no_mangle]
+pub extern "C" fn machine_regions(
+    words: &[u64],
+    frames: &[u8],
+    files: &[u8],
+    process: u64,
+    out: &mut [u64],
+) -> u64
+    ensures { λ r. ⌜ Told (ofListed (answerOn notListed (λ s. model.regions s process) (now (words .entry)) (now (frames .entry)) (now (files .entry)))) 65 r (now (out .entry)) (now (out .exit)) ⌝ }
+{
+    if out.len() != 65 {
+        return 1;
+    }
+    tell_listed(calls::regions(words, frames, files, process), out)
 }
 
 // Whether a range is covered: out[0] is 1 or 0.

@@ -1,9 +1,10 @@
 // Answers as document 01's numbers and values.
 ghost use mathlib.Core.Path.{_≡_};
 ghost use lib.ListN.{length};
-ghost use Rattle.model.specs.Answers.{ofDone, ofOpened, ofPlaced, ofCovering, ofLoaded};
+ghost use Rattle.model.specs.Answers.{ofDone, ofOpened, ofPlaced, ofCovering, ofLoaded, ofListed};
 use model::Covering;
 use model::Done;
+use model::Listed;
 use model::Loaded;
 use model::Opened;
 use model::Placed;
@@ -87,4 +88,19 @@ pub fn tell_loaded(answer: Loaded, out: &mut [u64]) -> u64
             return refusal.number();
         }
     }
+}
+
+// The count, then the 64 starts.
+pub fn tell_listed(answer: Listed, out: &mut [u64]) -> u64
+    requires { ⌜ length (now out) ≡ 65 ⌝ }
+    ensures { λ r. ⌜ r ≡ ofListed answer .number ⌝ }
+    ensures { λ _. ⌜ now (out .exit) ≡ ofListed answer .values ⌝ }
+{
+    out[0] = answer.count;
+    let mut i = 0;
+    while i < 64 {
+        out[i + 1] = answer.starts[i];
+        i += 1;
+    }
+    tell_done(answer.done)
 }

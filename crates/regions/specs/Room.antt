@@ -3,7 +3,7 @@ use mathlib.Core.Logic.{_≢_}
 use mathlib.Core.Path.{_≡_, refl, ap, sym, subst, _∙_}
 use mathlib.Core.Bool.{Bool, true, false, not, cond}
 use mathlib.Core.List.{List, [], _∷_}
-use Prim.Native.Nat.{ℕ, zero, suc, _+_, _-_, _*_, _≤_, _<_, zero-le, suc-le-suc}
+use Prim.Native.Nat.{ℕ, zero, suc, _+_, _*_, _≤_, _<_, zero-le, suc-le-suc}
 use native.Mathlib.Nat.{not-suc-le-zero}
 use native.Mathlib.Omega.{arith}
 use lib.ListN.{length, getD, drop, length-take}
@@ -16,11 +16,11 @@ use Rattle.model.specs.declared.Found.the-variants.{At}
 use Rattle.model.specs.Lists.{part, keep}
 use Rattle.model.specs.Tests.{Pairs}
 use Rattle.model.specs.Machine.{Machine, processAt, orderOf, regionAt, noRegion}
-use Rattle.model.specs.Lookup.{firstRow, regionsOf, freeSlot, rowFound}
-use Rattle.model.specs.LookupLaws.{never-found, same-slot}
+use Rattle.model.specs.Lookup.{regionsOf, freeSlot, rowFound}
 use Rattle.model.specs.Create.{addRegion}
 use Rattle.model.specs.Sound.{Ordered}
 use Rattle.tables.specs.Lookups.{freeRegion, part-length, part-at}
+use Rattle.tables.specs.SearchLaws.{first-found}
 use Rattle.regions.specs.Added.{withAdded, added-free}
 use Rattle.regions.specs.Kept.{other}
 
@@ -101,33 +101,17 @@ once-most (suc n) l h o =
 
 -- ---- the free slot
 
-row-found : {A : Type 0} (f : A → Bool) (l : List A) (i s : ℕ) (d : A) → firstRow f l i ≡ At s → ((i ≤ s) × (s < i + length l)) × (f (getD l (s - i) d) ≡ true)
-unfolding firstRow
-row-found f [] i s d e = absurd (never-found e)
-row-found f (x ∷ l) i s d e = go (f x) refl e (row-found f l (i + 1) s d)
-  where
-    go : (b : Bool) → f x ≡ b → cond b (At i) (firstRow f l (i + 1)) ≡ At s → (firstRow f l (i + 1) ≡ At s → ((i + 1 ≤ s) × (s < i + 1 + length l)) × (f (getD l (s - (i + 1)) d) ≡ true)) → ((i ≤ s) × (s < i + suc (length l))) × (f (getD (x ∷ l) (s - i) d) ≡ true)
-    go true p q ih = let z = same-slot q in ((omega arith, omega arith), ap (λ (k : ℕ). f (getD (x ∷ l) k d)) (let k : s - i ≡ 0 = omega arith in k) ∙ p)
-    go false p q ih =
-        let r = ih q in
-        let low = r .0 .0 in
-        let high = r .0 .1 in
-        ((omega arith, omega arith), ap (λ (k : ℕ). f (getD (x ∷ l) k d)) (let k : s - i ≡ suc (s - (i + 1)) = omega arith in k) ∙ r .1)
-
 module _ (m : Machine) (p s : ℕ) (found : freeSlot m p ≡ At s) where
-  free-row : ((0 ≤ s) × (s < 0 + length (regionsOf m p))) × (freeRegion (getD (regionsOf m p) (s - 0) noRegion) ≡ true)
+  free-row : (s < length (regionsOf m p)) × (freeRegion (getD (regionsOf m p) s noRegion) ≡ true)
   unfolding freeSlot
-  free-row = row-found freeRegion (regionsOf m p) 0 s noRegion found
+  free-row = first-found freeRegion (regionsOf m p) s noRegion found
 
   pub free-below : s < 64
   unfolding part
-  free-below = let h = free-row .0 .1 in let l = length-take 64 (drop (p * 64) (m .regions)) in omega arith
+  free-below = let h = free-row .0 in let l = length-take 64 (drop (p * 64) (m .regions)) in omega arith
 
   pub free-kind : regionAt m p s .kind ≡ 0
-  free-kind = eqb-true (regionAt m p s .kind) 0 (ap (λ (r : Region). freeRegion r) row ∙ free-row .1)
-    where
-      row : regionAt m p s ≡ getD (regionsOf m p) (s - 0) noRegion
-      row = sym (part-at (m .regions) 64 p s noRegion free-below) ∙ ap (λ (k : ℕ). getD (regionsOf m p) k noRegion) (let k : s ≡ s - 0 = omega arith in k)
+  free-kind = eqb-true (regionAt m p s .kind) 0 (ap (λ (r : Region). freeRegion r) (sym (part-at (m .regions) 64 p s noRegion free-below)) ∙ free-row .1)
 
   -- in a sound machine list order has a place left
   pub room-left : (q : Process) → Ordered m p q → p * 64 + 64 ≤ length (m .order) → processAt m p .attached < 64

@@ -20,8 +20,9 @@ use Rattle.model.specs.Lookup.{isUsed, isRanged, isShared, count}
 use Rattle.model.specs.Create.{one}
 use Rattle.model.specs.Backing.{backingAt, withBackings, letGo}
 use Rattle.model.specs.Sound.{Sound, R2, Hold, entryHolds, rangeHolds, holds, holdersOf}
+use Rattle.tables.specs.SearchLaws.{count-append}
 use Rattle.pool.specs.Laws.{Ready, sound-ready, used-low}
-use Rattle.removal.specs.Holding.{count-append, oneIf, holding, Holder, holding-some}
+use Rattle.removal.specs.Holding.{oneIf, holding, Holder, holding-some}
 
 -- whether an entry, a region holds a backing, and how
 abbrev pub entryTaken : Entry → Bool

@@ -1,7 +1,7 @@
 -- Holders counted over the rows of a table, and counted again once a row is free.
 use mathlib.Core.Path.{_≡_, refl, ap}
 use mathlib.Core.Bool.{Bool, true, false, cond}
-use mathlib.Core.List.{List, [], _∷_, _++_, map}
+use mathlib.Core.List.{List, [], _∷_, map}
 use Prim.Native.Nat.{ℕ, zero, suc, _+_, _≤_, _<_, zero-le, suc-le-suc}
 use native.Mathlib.Nat.{le-of-suc-le-suc, not-suc-le-zero}
 use native.Mathlib.Omega.{arith}
@@ -11,15 +11,6 @@ use borrow.Author.Tests.{eqb-true}
 use Rattle.model.specs.Lists.{keep}
 use Rattle.model.specs.Lookup.{count}
 use Rattle.model.specs.Sound.{Hold}
-
-pub count-append : {A : Type 0} (p : A → Bool) (l k : List A) → count p (l ++ k) ≡ count p l + count p k
-unfolding count
-count-append p [] k = omega arith
-count-append p (x ∷ l) k = go (p x) (count-append p l k)
-  where
-    go : (b : Bool) → count p (l ++ k) ≡ count p l + count p k → cond b (count p (l ++ k) + 1) (count p (l ++ k)) ≡ cond b (count p l + 1) (count p l) + count p k
-    go true e = omega arith
-    go false e = e
 
 abbrev pub oneIf : Bool → ℕ
 oneIf b = cond b 1 0

@@ -1,8 +1,8 @@
 -- What backs a page: the backing at any frame number, and the two ways of the model's `backing`, by the page entry and by the range.
 use mathlib.Core.Path.{_≡_, refl, ap, sym, _∙_}
 use mathlib.Core.Bool.{Bool, true, false, _&&_, cond}
-use mathlib.Core.List.{List, [], _∷_}
-use Prim.Native.Nat.{ℕ, suc, _+_, _-_, _/_, _≤_, _<_}
+use mathlib.Core.List.{List}
+use Prim.Native.Nat.{ℕ, _+_, _-_, _/_, _≤_, _<_}
 use native.Mathlib.Omega.{arith}
 use lib.ListN.{length, getD, List·getD-eq-default}
 use lib.Dec.{ltb}
@@ -17,10 +17,10 @@ use Rattle.model.specs.declared.Found.the-variants.{At, Nothing}
 use Rattle.model.specs.Rows.{rows-length}
 use Rattle.model.specs.Layout.{machine}
 use Rattle.model.specs.Machine.{Machine, noEntry, noBacking, regionAt, rowOf}
-use Rattle.model.specs.Lookup.{firstRow, isRanged}
-use Rattle.model.specs.LookupLaws.{never-found, same-slot}
+use Rattle.model.specs.Lookup.{isRanged}
 use Rattle.model.specs.Backing.{backingAt, entryFor, backing}
 use Rattle.tables.specs.Lookups.{entryOf, entries-length}
+use Rattle.tables.specs.SearchLaws.{first-found}
 
 -- by the entry in the row found
 abbrev pub byEntry : Machine → Found → Backed
@@ -72,18 +72,9 @@ backing-row w f n h = go (ltb f 256) refl
     go false e = let none = ap (λ (b : Backing). b .len) (no-backing w f (ltb-false f 256 e)) in absurd (omega arith)
 
 -- the row of a search's first hit is one of the list's
-row-within : {A : Type 0} (f : A → Bool) (l : List A) (i j : ℕ) → firstRow f l i ≡ At j → j < i + length l
-unfolding firstRow
-row-within f [] i j e = absurd (never-found e)
-row-within f (x ∷ l) i j e = go (f x) e (row-within f l (i + 1) j)
-  where
-    go : (b : Bool) → cond b (At i) (firstRow f l (i + 1)) ≡ At j → (firstRow f l (i + 1) ≡ At j → j < i + 1 + length l) → j < i + suc (length l)
-    go true p later = let same = same-slot p in omega arith
-    go false p later = let below = later p in omega arith
-
 pub entry-row : (w : List ℕ) (row page i : ℕ) → At i ≡ entryFor (machine w) row page → i < 512
 unfolding entryFor
-entry-row w row page i e = let below = row-within (entryOf (row + 1) page) (machine w .entries) 0 i (sym e) in let sized = entries-length w in omega arith
+entry-row w row page i e = let below = first-found (entryOf (row + 1) page) (machine w .entries) i noEntry (sym e) .0 in let sized = entries-length w in omega arith
 
 module _ (m : Machine) (r : Region) (page : ℕ) where
   pub range-none : (r .ranged ≡ 1 → ⊥) → Unbacked ≡ byRange m r page

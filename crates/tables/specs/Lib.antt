@@ -5,6 +5,7 @@ pub mod Tables
 pub mod With
 pub mod Puts
 pub mod Scan
+pub mod SearchLaws
 pub mod Every
 pub mod Lookups
 pub mod Attached
