@@ -6,7 +6,6 @@ mod processes;
 
 pub use access::load;
 pub use access::store;
-pub use cores::start::start;
 pub use create::create_file;
 pub use create::create_private;
 pub use create::create_shared;
@@ -16,3 +15,4 @@ pub use look::regions;
 pub use processes::close;
 pub use processes::open;
 pub use processes::sound;
+pub use starting::start;

@@ -2,8 +2,4 @@
 pub mod RefusalLaws
 pub mod SoundLaws
 pub mod LookLaws
-pub mod MappedLaws
-pub mod AccessLaws
 pub mod OpenLaws
-pub mod Start
-pub mod StartLaws

@@ -6,7 +6,7 @@ ghost use Rattle.model.specs.Layout.{wordCount};
 ghost use Rattle.tables.specs.Lent.{SoundFrames};
 ghost use Rattle.cores_c.specs.Loads.{byteOr0, sumOf, byteAt, loadsOn};
 use address::VirtAddr;
-use cores::access::load_core;
+use loads::load_core;
 use model::Loaded;
 use soundness::is_sound;
 

@@ -10,7 +10,7 @@ use Rattle.model.specs.declared.Place.{Place}
 use Rattle.model.specs.declared.Placed.{Placed}
 use Rattle.model.specs.declared.Placed.the-variants as placed
 use Rattle.model.specs.Answers.{After, Reply, ofDone, ofPlaced}
-use Rattle.cores.specs.Start.{Starts}
+use Rattle.starting.specs.Start.{Starts}
 use Rattle.calls.specs.Answered.{answerOn, Leaves}
 
 pub record Told (reply : Reply) (n r : ℕ) (out out' : List ℕ) : Type 0 where

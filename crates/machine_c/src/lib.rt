@@ -13,7 +13,7 @@ ghost use Rattle.model.specs.declared.Loaded.the-variants as loaded;
 ghost use Rattle.model.specs.Answers.{ofDone, ofOpened, ofPlaced, ofCovering, ofLoaded, ofListed, notListed};
 ghost use Rattle.model.specs.Calls as model;
 ghost use Rattle.soundness.specs.Lent.{soundLent};
-ghost use Rattle.cores.specs.Start.{Starts};
+ghost use Rattle.starting.specs.Start.{Starts};
 ghost use Rattle.calls.specs.Answered.{answerOn, Leaves};
 ghost use Rattle.machine_c.specs.Numbers.{soundNumber, placeOf};
 ghost use Rattle.machine_c.specs.Out.{Told, LeavesOut, StartTold};

@@ -28,14 +28,13 @@ pub mod Posix
 -- the lent words as tables
 pub mod Rows
 pub mod Layout
--- P1 to P12 and our own points
+-- P1 to P12, and two points of our own
 pub mod Table
 pub mod TableLaws
 pub mod Open
 pub mod PointRows
-pub mod EdgeRows
+pub mod RangeRows
 pub mod Points
-pub mod Damaged
 -- laws
 pub mod SoundLaws
 pub mod RecordLaws

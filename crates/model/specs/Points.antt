@@ -1,4 +1,4 @@
--- P1 to P12 and our own points beside the edges, together: one table, one statement, proved by computing the definitions.
+-- P1 to P12 and two points of our own, together: one table, one statement, proved by computing the definitions.
 use mathlib.Core.Path.{_≡_, refl, ap, sym, _∙_}
 use mathlib.Core.Bool.{Bool, true, _&&_}
 use mathlib.Core.List.{List, [], _∷_, _++_}
@@ -11,13 +11,11 @@ use Rattle.model.specs.Open.{everything}
 use Rattle.model.specs.Table.{Row, Holds, holdsb}
 use Rattle.model.specs.TableLaws.{and-both, all-both, holds-told}
 use Rattle.model.specs.PointRows.{p1-6, p7, p8, p9, p10, p10′, p11, p12, unstarted}
-use Rattle.model.specs.EdgeRows.{fileEnd, unreadable, rangePage, carveFull, carveInUse, carveRange, detachedUnpin, cloneOrder, populates, exactSize, rights, fork, broken, opened, crowded}
+use Rattle.model.specs.RangeRows.{rangePage, populates, opened}
 
 -- P7 to P12, P10 in both orders, and our own
 unfoldable pub machineRows : List Row
-machineRows =
-    p7 ∷ p8 ∷ p9 ∷ p10 ∷ p10′ ∷ p11 ∷ p12
-    ∷ fileEnd ∷ unreadable ∷ rangePage ∷ carveFull ∷ carveInUse ∷ carveRange ∷ detachedUnpin ∷ cloneOrder ∷ populates ∷ exactSize ∷ rights ∷ fork ∷ broken ∷ []
+machineRows = p7 ∷ p8 ∷ p9 ∷ p10 ∷ p10′ ∷ p11 ∷ p12 ∷ rangePage ∷ populates ∷ []
 
 -- P1 to P6 before them
 unfoldable pub table : List Row
@@ -58,65 +56,19 @@ p12-holds : rowb p12 ≡ true
 unfolding everything rowb p12 unstarted
 p12-holds = refl
 
-fileEnd-holds : rowb fileEnd ≡ true
-unfolding everything rowb fileEnd unstarted opened
-fileEnd-holds = refl
-
-unreadable-holds : rowb unreadable ≡ true
-unfolding everything rowb unreadable unstarted opened
-unreadable-holds = refl
-
 rangePage-holds : rowb rangePage ≡ true
 unfolding everything rowb rangePage unstarted opened
 rangePage-holds = refl
-
-carveFull-holds : rowb carveFull ≡ true
-unfolding everything rowb carveFull unstarted opened crowded
-carveFull-holds = refl
-
-carveInUse-holds : rowb carveInUse ≡ true
-unfolding everything rowb carveInUse unstarted opened
-carveInUse-holds = refl
-
-carveRange-holds : rowb carveRange ≡ true
-unfolding everything rowb carveRange unstarted opened
-carveRange-holds = refl
-
-detachedUnpin-holds : rowb detachedUnpin ≡ true
-unfolding everything rowb detachedUnpin unstarted opened
-detachedUnpin-holds = refl
-
-cloneOrder-holds : rowb cloneOrder ≡ true
-unfolding everything rowb cloneOrder unstarted opened crowded
-cloneOrder-holds = refl
 
 populates-holds : rowb populates ≡ true
 unfolding everything rowb populates unstarted opened
 populates-holds = refl
 
-exactSize-holds : rowb exactSize ≡ true
-unfolding everything rowb exactSize unstarted opened
-exactSize-holds = refl
-
-rights-holds : rowb rights ≡ true
-unfolding everything rowb rights unstarted opened
-rights-holds = refl
-
-fork-holds : rowb fork ≡ true
-unfolding everything rowb fork unstarted opened
-fork-holds = refl
-
-broken-holds : rowb broken ≡ true
-unfolding everything rowb broken unstarted opened
-broken-holds = refl
-
 machine-rows-hold : all rowb machineRows ≡ true
 unfolding all machineRows
 machine-rows-hold =
     and-both p7-holds (and-both p8-holds (and-both p9-holds (and-both p10-holds (and-both p10′-holds (
-    and-both p11-holds (and-both p12-holds (and-both fileEnd-holds (and-both unreadable-holds (and-both rangePage-holds (
-    and-both carveFull-holds (and-both carveInUse-holds (and-both carveRange-holds (and-both detachedUnpin-holds (and-both cloneOrder-holds (
-    and-both populates-holds (and-both exactSize-holds (and-both rights-holds (and-both fork-holds (and-both broken-holds (refl))))))))))))))))))))
+    and-both p11-holds (and-both p12-holds (and-both rangePage-holds (and-both populates-holds refl))))))))
 
 all-hold : all rowb table ≡ true
 unfolding table

@@ -2,8 +2,8 @@
 use mathlib.Core.List.{List, [], _∷_}
 use Prim.Native.Nat.{ℕ}
 use Rattle.answers.specs.Number.{numberOf}
-use Rattle.segments.specs.declared.segment.Answered.{Answered}
-use Rattle.segments.specs.declared.segment.Answered.the-variants as answered
+use Rattle.segment.specs.declared.Answered.{Answered}
+use Rattle.segment.specs.declared.Answered.the-variants as answered
 use Rattle.segments.specs.declared.manager.Reserved.{Reserved}
 use Rattle.segments.specs.declared.manager.Reserved.the-variants as reserved
 use Rattle.segments.specs.declared.manager.Released.{Released}
@@ -12,7 +12,7 @@ use Rattle.segments.specs.declared.manager.SplitInto.{SplitInto}
 use Rattle.segments.specs.declared.manager.SplitInto.the-variants as split
 use Rattle.segments.specs.declared.manager.Listed.{Listed}
 use Rattle.segments.specs.declared.manager.Listed.the-variants as listed
-use Rattle.segments.specs.Form.{startOf}
+use Rattle.segment.specs.Form.{startOf}
 
 -- a new manager, and marking: the number alone
 abbrev pub answeredValues : Answered → List ℕ

@@ -12,13 +12,13 @@ use Rattle.answers.specs.declared.Refusal.the-variants.{BadTable, BadAddress, N
 use Rattle.address.specs.declared.VirtAddr.{VirtAddr}
 use Rattle.address.specs.Canonical.{canonical}
 use Rattle.address.specs.Paging.{aligned}
-use Rattle.segments.specs.declared.segment.Segment.{Segment}
-use Rattle.segments.specs.declared.segment.Answered.{Answered}
-use Rattle.segments.specs.declared.segment.Answered.the-variants.{Done, Refused}
-use Rattle.segments.specs.declared.search.Found.{Found}
-use Rattle.segments.specs.declared.search.Found.the-variants.{In, Nothing}
-use Rattle.segments.specs.declared.search.Search.{Search}
-use Rattle.segments.specs.declared.search.Search.the-variants.{Free, Full}
+use Rattle.segment.specs.declared.Segment.{Segment}
+use Rattle.segment.specs.declared.Answered.{Answered}
+use Rattle.segment.specs.declared.Answered.the-variants.{Done, Refused}
+use Rattle.search.specs.declared.Found.{Found}
+use Rattle.search.specs.declared.Found.the-variants.{In, Nothing}
+use Rattle.search.specs.declared.Search.{Search}
+use Rattle.search.specs.declared.Search.the-variants.{Free, Full}
 use Rattle.segments.specs.declared.table.VirtualMemoryManager.{VirtualMemoryManager}
 use Rattle.segments.specs.declared.table.Place.{Place}
 use Rattle.segments.specs.declared.table.Place.the-variants as place
@@ -27,14 +27,14 @@ use Rattle.segments.specs.declared.manager.Released.the-variants as rele
 use Rattle.segments.specs.declared.manager.SplitInto.the-variants as split
 use Rattle.segments.specs.declared.manager.Listed.the-variants as listed
 use Rattle.segments.specs.declared.manager.NewAnswer.{NewAnswer}
-use Rattle.segments.specs.Form.{startOf, lastOf, emptyb, formOf, done}
-use Rattle.segments.specs.FormLaws.{form-last}
+use Rattle.segment.specs.Form.{startOf, lastOf, emptyb, formOf, done}
+use Rattle.segment.specs.FormLaws.{form-last}
 use Rattle.segments.specs.Table.{held, arena, stored, soundb, walk, insert, remove, removedAt, heldb, placeOf, noSegment, noReach, empty}
-use Rattle.segments.specs.Search.{firstOver, ahead, search}
-use Rattle.segments.specs.Words.{tableOf}
-use Rattle.segments.specs.WordsLaws.{table-length}
+use Rattle.search.specs.Search.{firstOver, ahead, search}
+use Rattle.search.specs.Words.{tableOf}
+use Rattle.search.specs.WordsLaws.{table-length}
 use Rattle.segments.specs.RuleLaws.{sound-tells}
-use Rattle.segments.specs.Tries.{by-test, ahead-le}
+use Rattle.search.specs.Tries.{by-test, ahead-le}
 use Rattle.segments.specs.PlaceLaws.{place-stands, place-absent, held-stored, stored-stored}
 use Rattle.segments.specs.ShiftLaws.{removed-length}
 use Rattle.segments.specs.InsertLaws.{length-insert}

@@ -6,13 +6,13 @@ use Prim.Native.Nat.{ℕ, _+_, _-_, _%_, _<_}
 use native.Mathlib.Omega.{arith}
 use Rattle.address.specs.declared.VirtAddr.{VirtAddr}
 use Rattle.address.specs.Tells.{Tells, tells-both}
-use Rattle.segments.specs.declared.segment.Segment.{Segment}
-use Rattle.segments.specs.Form.{startOf, lastOf, overb, Over}
+use Rattle.segment.specs.declared.Segment.{Segment}
+use Rattle.segment.specs.Form.{startOf, lastOf, overb, Over}
 use Rattle.segments.specs.Table.{heldb}
-use Rattle.segments.specs.Search.{firstOver}
+use Rattle.search.specs.Search.{firstOver}
 use Rattle.segments.specs.Calls.{isIn, overlapsb, insideb, low, high}
-use Rattle.segments.specs.FormLaws.{eqb-tells, ltb-tells, not-tells, either-tells, tells-as, same-tells, over-tells, same-is}
-use Rattle.segments.specs.Tries.{by-test}
+use Rattle.segment.specs.FormLaws.{eqb-tells, ltb-tells, not-tells, either-tells, tells-as, same-tells, over-tells, same-is}
+use Rattle.search.specs.Tries.{by-test}
 
 -- one row of a list
 abbrev pub Any : (Segment → Type 0) → List Segment → Type 0

@@ -11,19 +11,19 @@ use Rattle.answers.specs.declared.Refusal.the-variants.{BadTable, BadAddress, N
 use Rattle.address.specs.declared.VirtAddr.{VirtAddr}
 use Rattle.address.specs.Canonical.{canonical}
 use Rattle.address.specs.Paging.{aligned}
-use Rattle.segments.specs.declared.segment.Segment.{Segment}
-use Rattle.segments.specs.declared.segment.Answered.{Answered}
-use Rattle.segments.specs.declared.segment.Answered.the-variants.{Done, Refused}
-use Rattle.segments.specs.declared.search.Search.{Search}
-use Rattle.segments.specs.declared.search.Search.the-variants.{Free, Full}
+use Rattle.segment.specs.declared.Segment.{Segment}
+use Rattle.segment.specs.declared.Answered.{Answered}
+use Rattle.segment.specs.declared.Answered.the-variants.{Done, Refused}
+use Rattle.search.specs.declared.Search.{Search}
+use Rattle.search.specs.declared.Search.the-variants.{Free, Full}
 use Rattle.segments.specs.declared.table.VirtualMemoryManager.{VirtualMemoryManager}
 use Rattle.segments.specs.declared.manager.Reserved.the-variants as reserved
 use Rattle.segments.specs.declared.manager.Released.the-variants as released
 use Rattle.segments.specs.declared.manager.SplitInto.the-variants as split
-use Rattle.segments.specs.Form.{startOf, formOf}
+use Rattle.segment.specs.Form.{startOf, formOf}
 use Rattle.segments.specs.Table.{held, stored, soundb, insert, remove, heldb, Formed, empty}
 use Rattle.segments.specs.Calls.{segment, newCall, lowest, reserveCall, checkedBy, overlapsb, markCall, releaseCall, insideb, pointAs, splitPoint, low, high, splitCall}
-use Rattle.segments.specs.Tries.{by-test}
+use Rattle.search.specs.Tries.{by-test}
 
 -- ---- a new manager
 

@@ -10,13 +10,13 @@ use Rattle.answers.specs.declared.Refusal.the-variants.{BadTable, BadAddress, N
 use Rattle.address.specs.declared.VirtAddr.{VirtAddr}
 use Rattle.address.specs.Canonical.{canonical}
 use Rattle.address.specs.Paging.{aligned}
-use Rattle.segments.specs.declared.segment.Segment.{Segment}
-use Rattle.segments.specs.declared.segment.Answered.{Answered}
-use Rattle.segments.specs.declared.segment.Answered.the-variants.{Done, Refused}
-use Rattle.segments.specs.declared.search.Found.{Found}
-use Rattle.segments.specs.declared.search.Found.the-variants as found
-use Rattle.segments.specs.declared.search.Search.{Search}
-use Rattle.segments.specs.declared.search.Search.the-variants.{Free, Full}
+use Rattle.segment.specs.declared.Segment.{Segment}
+use Rattle.segment.specs.declared.Answered.{Answered}
+use Rattle.segment.specs.declared.Answered.the-variants.{Done, Refused}
+use Rattle.search.specs.declared.Found.{Found}
+use Rattle.search.specs.declared.Found.the-variants as found
+use Rattle.search.specs.declared.Search.{Search}
+use Rattle.search.specs.declared.Search.the-variants.{Free, Full}
 use Rattle.segments.specs.declared.table.VirtualMemoryManager.{VirtualMemoryManager}
 use Rattle.segments.specs.declared.manager.Reserved.{Reserved}
 use Rattle.segments.specs.declared.manager.Reserved.the-variants as reserved
@@ -32,9 +32,9 @@ use Rattle.segments.specs.declared.manager.MarkAnswer.{MarkAnswer}
 use Rattle.segments.specs.declared.manager.ReleaseAnswer.{ReleaseAnswer}
 use Rattle.segments.specs.declared.manager.SplitAnswer.{SplitAnswer}
 use Rattle.segments.specs.declared.manager.ListAnswer.{ListAnswer}
-use Rattle.segments.specs.Form.{startOf, lastOf, emptyb, formOf}
+use Rattle.segment.specs.Form.{startOf, lastOf, emptyb, formOf}
 use Rattle.segments.specs.Table.{held, arena, stored, soundb, insert, remove, heldb, noSegment, empty}
-use Rattle.segments.specs.Search.{firstOver, search}
+use Rattle.search.specs.Search.{firstOver, search}
 
 abbrev pub segment : ℕ → ℕ → Segment
 segment start len = record { start = record { 0 = start }; len = len }

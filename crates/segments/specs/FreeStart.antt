@@ -3,9 +3,9 @@ use mathlib.Core.Bool.{Bool, not, _&&_}
 use mathlib.Core.List.{List}
 use Prim.Native.Nat.{ℕ, _+_, _-_, _≤_, _<_}
 use lib.Dec.{ltb, leb}
-use Rattle.segments.specs.declared.segment.Segment.{Segment}
+use Rattle.segment.specs.declared.Segment.{Segment}
 use Rattle.segments.specs.declared.table.VirtualMemoryManager.{VirtualMemoryManager}
-use Rattle.segments.specs.Form.{startOf, lastOf, emptyb, Over}
+use Rattle.segment.specs.Form.{startOf, lastOf, emptyb, Over}
 use Rattle.segments.specs.Table.{held, arena, All}
 
 -- ---- what a free start is

@@ -11,16 +11,16 @@ use lib.Seq.{take-append-seam}
 use borrow.Author.Tests.{ltb-true, ltb-false, eqb-true, eqb-false}
 use Rattle.address.specs.declared.VirtAddr.{VirtAddr}
 use Rattle.address.specs.Canonical.{canonical}
-use Rattle.segments.specs.declared.segment.Segment.{Segment}
-use Rattle.segments.specs.declared.search.Found.{Found}
-use Rattle.segments.specs.declared.search.Found.the-variants.{In, Nothing}
+use Rattle.segment.specs.declared.Segment.{Segment}
+use Rattle.search.specs.declared.Found.{Found}
+use Rattle.search.specs.declared.Found.the-variants.{In, Nothing}
 use Rattle.segments.specs.declared.table.VirtualMemoryManager.{VirtualMemoryManager}
-use Rattle.segments.specs.Form.{startOf, lastOf, emptyb, formOf, sameb, Same, Over}
+use Rattle.segment.specs.Form.{startOf, lastOf, emptyb, formOf, sameb, Same, Over}
 use Rattle.segments.specs.Table.{held, arena, stored, All, Pairs, Formed, Apart, Rule, noSegment, insert, remove, heldb, empty}
-use Rattle.segments.specs.Search.{firstOver}
+use Rattle.search.specs.Search.{firstOver}
 use Rattle.segments.specs.Calls.{segment, newCall, reserveCall, isIn, overlapsb, markCall, releaseCall, low, high, splitCall}
-use Rattle.segments.specs.FormLaws.{same-tells}
-use Rattle.segments.specs.Tries.{by-test}
+use Rattle.segment.specs.FormLaws.{same-tells}
+use Rattle.search.specs.Tries.{by-test}
 use Rattle.segments.specs.RuleLaws.{all-map}
 use Rattle.segments.specs.FreeStart.{FreeStart}
 use Rattle.segments.specs.LowestTries.{none-over}

@@ -1,14 +1,9 @@
 -- The rooms of the definitions and laws: docs/ARCHITECTURE.md says which to read.
-pub mod Form
-pub mod FormLaws
 pub mod Table
 pub mod TableLaws
 pub mod LoopLaws
 pub mod ShiftLaws
-pub mod Search
-pub mod Words
 pub mod Calls
-pub mod Tries
 pub mod RuleLaws
 pub mod Answers
 pub mod Rows
@@ -26,6 +21,5 @@ pub mod RefusedLaws
 pub mod ReserveLaws
 pub mod CallTests
 pub mod WordsLaws
-pub mod SearchLaws
 pub mod PlaceLaws
 pub mod CallLaws

@@ -5,14 +5,14 @@ use Prim.Native.Nat.{ℕ, suc, _+_, _-_, _≤_, _<_}
 use native.Mathlib.Omega.{arith}
 use lib.Dec.{eqb, ltb}
 use borrow.Author.Tests.{ltb-true, ltb-false, eqb-true, eqb-false, lt-ltb, le-ltb, eq-eqb, ne-eqb}
-use Rattle.segments.specs.declared.search.Search.{Search}
-use Rattle.segments.specs.declared.search.Search.the-variants.{Free, Full}
+use Rattle.search.specs.declared.Search.{Search}
+use Rattle.search.specs.declared.Search.the-variants.{Free, Full}
 use Rattle.segments.specs.declared.table.VirtualMemoryManager.{VirtualMemoryManager}
-use Rattle.segments.specs.Form.{startOf, lastOf}
+use Rattle.segment.specs.Form.{startOf, lastOf}
 use Rattle.segments.specs.Table.{held, arena, Rule}
-use Rattle.segments.specs.Search.{count, ahead, search}
+use Rattle.search.specs.Search.{count, ahead, search}
 use Rattle.segments.specs.Calls.{lowest}
-use Rattle.segments.specs.Tries.{by-test}
+use Rattle.search.specs.Tries.{by-test}
 use Rattle.segments.specs.FreeStart.{FreeStart, LowestStart, passedb}
 use Rattle.segments.specs.LowestTries.{Right, tries-right}
 use Rattle.segments.specs.RestartTries.{restarts-passed}

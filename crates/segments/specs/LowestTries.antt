@@ -8,16 +8,16 @@ use native.Mathlib.Nat.{not-suc-le-zero}
 use native.Mathlib.Omega.{arith}
 use lib.Dec.{ltb}
 use borrow.Author.Tests.{ltb-true, ltb-false}
-use Rattle.segments.specs.declared.segment.Segment.{Segment}
-use Rattle.segments.specs.declared.search.Found.{Found}
-use Rattle.segments.specs.declared.search.Found.the-variants.{In, Nothing}
-use Rattle.segments.specs.declared.search.Search.{Search}
-use Rattle.segments.specs.declared.search.Search.the-variants.{Free, Full}
-use Rattle.segments.specs.Form.{startOf, overb, Over}
+use Rattle.segment.specs.declared.Segment.{Segment}
+use Rattle.search.specs.declared.Found.{Found}
+use Rattle.search.specs.declared.Found.the-variants.{In, Nothing}
+use Rattle.search.specs.declared.Search.{Search}
+use Rattle.search.specs.declared.Search.the-variants.{Free, Full}
+use Rattle.segment.specs.Form.{startOf, overb, Over}
 use Rattle.segments.specs.Table.{All}
-use Rattle.segments.specs.Search.{firstOver, ahead, try, tries}
-use Rattle.segments.specs.FormLaws.{over-tells}
-use Rattle.segments.specs.Tries.{by-test, first-cases, none-first, first-over, ahead-falls}
+use Rattle.search.specs.Search.{firstOver, ahead, try, tries}
+use Rattle.segment.specs.FormLaws.{over-tells}
+use Rattle.search.specs.Tries.{by-test, first-cases, none-first, first-over, ahead-falls}
 use Rattle.segments.specs.FreeStart.{Clear}
 
 -- ---- the first in the way

@@ -5,13 +5,13 @@ use Prim.Native.Nat.{ℕ, _≤_, _<_}
 use borrow.Author.Tests.{le-leb, lt-leb}
 use Rattle.answers.specs.declared.Refusal.the-variants.{BadTable, NoSpace, TableFull}
 use Rattle.address.specs.Tells.{told, not-told}
-use Rattle.segments.specs.declared.search.Search.{Search}
-use Rattle.segments.specs.declared.search.Search.the-variants.{Free, Full}
+use Rattle.search.specs.declared.Search.{Search}
+use Rattle.search.specs.declared.Search.the-variants.{Free, Full}
 use Rattle.segments.specs.declared.table.VirtualMemoryManager.{VirtualMemoryManager}
 use Rattle.segments.specs.declared.manager.Reserved.the-variants.{At, Refused}
-use Rattle.segments.specs.Form.{startOf}
+use Rattle.segment.specs.Form.{startOf}
 use Rattle.segments.specs.Table.{held, arena, stored, Rule, insert}
-use Rattle.segments.specs.Search.{count}
+use Rattle.search.specs.Search.{count}
 use Rattle.segments.specs.Calls.{segment, lowest, reserveCall}
 use Rattle.segments.specs.FreeStart.{FreeStart, LowestStart, passedb}
 use Rattle.segments.specs.RuleLaws.{sound-tells}

@@ -8,15 +8,15 @@ use native.Mathlib.Nat.{not-suc-le-zero}
 use native.Mathlib.Omega.{arith}
 use lib.Dec.{ltb}
 use Rattle.address.specs.Tells.{Tells, tells-both, told, not-told, tells-same}
-use Rattle.segments.specs.declared.segment.Segment.{Segment}
-use Rattle.segments.specs.declared.search.Found.{Found}
-use Rattle.segments.specs.declared.search.Found.the-variants.{In, Nothing}
-use Rattle.segments.specs.declared.search.Search.the-variants.{Free}
-use Rattle.segments.specs.Form.{startOf, lastOf, overb, Before, Over}
+use Rattle.segment.specs.declared.Segment.{Segment}
+use Rattle.search.specs.declared.Found.{Found}
+use Rattle.search.specs.declared.Found.the-variants.{In, Nothing}
+use Rattle.search.specs.declared.Search.the-variants.{Free}
+use Rattle.segment.specs.Form.{startOf, lastOf, overb, Before, Over}
 use Rattle.segments.specs.Table.{All, Pairs, Apart}
-use Rattle.segments.specs.Search.{firstOver, count, ahead, try, tries}
-use Rattle.segments.specs.FormLaws.{eqb-tells, ltb-tells, leb-tells, not-tells, tells-as, over-tells}
-use Rattle.segments.specs.Tries.{by-test, first-cases, none-first, first-over, ahead-falls, count-yes, count-no}
+use Rattle.search.specs.Search.{firstOver, count, ahead, try, tries}
+use Rattle.segment.specs.FormLaws.{eqb-tells, ltb-tells, leb-tells, not-tells, tells-as, over-tells}
+use Rattle.search.specs.Tries.{by-test, first-cases, none-first, first-over, ahead-falls, count-yes, count-no}
 use Rattle.segments.specs.RuleLaws.{all-map}
 use Rattle.segments.specs.FreeStart.{passedb}
 use Rattle.segments.specs.LowestTries.{first-of-all, none-over, Right, tries-right}

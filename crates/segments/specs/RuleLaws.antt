@@ -6,15 +6,15 @@ use mathlib.Core.List.{List, [], _∷_}
 use Prim.Native.Nat.{_≤_, _<_}
 use native.Mathlib.Omega.{arith}
 use Rattle.address.specs.Tells.{Tells, tells-of, tells-both}
-use Rattle.segments.specs.declared.segment.Segment.{Segment}
-use Rattle.segments.specs.declared.segment.Answered.{Answered}
-use Rattle.segments.specs.declared.segment.Answered.the-variants.{Done, Refused}
+use Rattle.segment.specs.declared.Segment.{Segment}
+use Rattle.segment.specs.declared.Answered.{Answered}
+use Rattle.segment.specs.declared.Answered.the-variants.{Done, Refused}
 use Rattle.segments.specs.declared.table.VirtualMemoryManager.{VirtualMemoryManager}
 use Rattle.segments.specs.declared.table.Reach.{Reach}
-use Rattle.segments.specs.Form.{startOf, lastOf, emptyb, formOf, done, Before}
+use Rattle.segment.specs.Form.{startOf, lastOf, emptyb, formOf, done, Before}
 use Rattle.segments.specs.Table.{held, arena, All, Pairs, Formed, Apart, Rule, reachWith, inOrder, followsb, walk, noSegment, noReach, soundb}
-use Rattle.segments.specs.FormLaws.{eqb-tells, ltb-tells, leb-tells, either-tells, tells-as, before-tells}
-use Rattle.segments.specs.Tries.{by-test}
+use Rattle.segment.specs.FormLaws.{eqb-tells, ltb-tells, leb-tells, either-tells, tells-as, before-tells}
+use Rattle.search.specs.Tries.{by-test}
 
 -- ---- all rows of a list
 

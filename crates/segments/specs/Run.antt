@@ -1,9 +1,9 @@
 -- The calls of a lone manager as one kind of call: what each answers, by document 01's numbers, and the manager that it leaves.
 use mathlib.Core.List.{List, [], _∷_}
 use Prim.Native.Nat.{ℕ}
-use Rattle.segments.specs.declared.segment.Segment.{Segment}
+use Rattle.segment.specs.declared.Segment.{Segment}
 use Rattle.segments.specs.declared.table.VirtualMemoryManager.{VirtualMemoryManager}
-use Rattle.segments.specs.Form.{startOf}
+use Rattle.segment.specs.Form.{startOf}
 use Rattle.segments.specs.Table.{held, empty}
 use Rattle.segments.specs.Calls.{segment, newCall, reserveCall, markCall, releaseCall, splitCall, listCall}
 use Rattle.segments.specs.Answers.{answeredValues, reservedValues, releasedValues, splitValues, listedValues}

@@ -1,7 +1,5 @@
 // The segment manager: which addresses of an arena are reserved. The Rust's crate kernel_virtual_memory.
 mod manager;
-mod search;
-mod segment;
 mod table;
 
 pub use manager::ListAnswer;
@@ -14,8 +12,6 @@ pub use manager::ReserveAnswer;
 pub use manager::Reserved;
 pub use manager::SplitAnswer;
 pub use manager::SplitInto;
-pub use search::Search;
-pub use search::lowest_start;
 pub use segment::Answered;
 pub use segment::Segment;
 pub use table::VirtualMemoryManager;

@@ -1,19 +1,19 @@
 // The calls of a lone manager: each takes any manager and any arguments, tests the table first, and answers by document 01.
 ghost use mathlib.Core.Path.{_≡_};
 ghost use mathlib.Core.Bool.{true};
-ghost use Rattle.segments.specs.declared.segment.Answered.the-variants.{Done};
+ghost use Rattle.segment.specs.declared.Answered.the-variants.{Done};
 ghost use Rattle.segments.specs.Table.{held, soundb};
 ghost use Rattle.segments.specs.Calls.{newCall, reserveCall, markCall, releaseCall, splitCall, listCall, checkedBy, splitPoint, insideb, lowest, overlapsb};
-use crate::search::Found;
-use crate::search::Search;
-use crate::search::find_overlapping_at;
-use crate::search::lowest_start;
-use crate::segment::Answered;
-use crate::segment::Segment;
 use crate::table::Place;
 use crate::table::VirtualMemoryManager;
 use address::VirtAddr;
 use answers::Refusal;
+use search::Found;
+use search::Search;
+use search::find_overlapping_at;
+use search::lowest_start;
+use segment::Answered;
+use segment::Segment;
 
 // The segment reserved, and how often the search started over.
 pub enum Reserved {

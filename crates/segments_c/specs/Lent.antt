@@ -5,8 +5,8 @@ use Prim.Native.Nat.{ℕ}
 use lib.Dec.{eqb}
 use lib.ListN.{length, getD, drop}
 use Rattle.answers.specs.Number.{numberOf}
-use Rattle.segments.specs.declared.segment.Answered.{Answered}
-use Rattle.segments.specs.declared.segment.Answered.the-variants as answered
+use Rattle.segment.specs.declared.Answered.{Answered}
+use Rattle.segment.specs.declared.Answered.the-variants as answered
 use Rattle.segments.specs.declared.table.VirtualMemoryManager.{VirtualMemoryManager}
 use Rattle.segments.specs.declared.manager.Reserved.{Reserved}
 use Rattle.segments.specs.declared.manager.Reserved.the-variants as reserved
@@ -14,8 +14,8 @@ use Rattle.segments.specs.declared.manager.Released.{Released}
 use Rattle.segments.specs.declared.manager.Released.the-variants as released
 use Rattle.segments.specs.declared.manager.SplitInto.{SplitInto}
 use Rattle.segments.specs.declared.manager.SplitInto.the-variants as split
-use Rattle.segments.specs.Form.{startOf}
-use Rattle.segments.specs.Words.{tableOf}
+use Rattle.segment.specs.Form.{startOf}
+use Rattle.search.specs.Words.{tableOf}
 use Rattle.segments.specs.Run.{numbers}
 use Rattle.segments.specs.Calls.{segment, newCall, reserveCall, markCall, releaseCall, splitCall}
 

@@ -6,9 +6,9 @@ use lib.ListN.{length}
 use borrow.Author.Tests.{eq-eqb, ne-eqb}
 use Rattle.answers.specs.declared.Refusal.{Refusal}
 use Rattle.answers.specs.Number.{numberOf}
-use Rattle.segments.specs.declared.segment.Segment.{Segment}
-use Rattle.segments.specs.declared.segment.Answered.{Answered}
-use Rattle.segments.specs.declared.segment.Answered.the-variants as answered
+use Rattle.segment.specs.declared.Segment.{Segment}
+use Rattle.segment.specs.declared.Answered.{Answered}
+use Rattle.segment.specs.declared.Answered.the-variants as answered
 use Rattle.segments.specs.declared.table.VirtualMemoryManager.{VirtualMemoryManager}
 use Rattle.segments.specs.declared.manager.Reserved.{Reserved}
 use Rattle.segments.specs.declared.manager.Reserved.the-variants as reserved
@@ -21,7 +21,7 @@ use Rattle.segments.specs.declared.manager.ReserveAnswer.{ReserveAnswer}
 use Rattle.segments.specs.declared.manager.MarkAnswer.{MarkAnswer}
 use Rattle.segments.specs.declared.manager.ReleaseAnswer.{ReleaseAnswer}
 use Rattle.segments.specs.declared.manager.SplitAnswer.{SplitAnswer}
-use Rattle.segments.specs.Form.{startOf}
+use Rattle.segment.specs.Form.{startOf}
 use Rattle.segments.specs.Calls.{segment, newCall, reserveCall, markCall, releaseCall, splitCall}
 use Rattle.segments_c.specs.Lent.{managerOf, wordsOf, Lent, lent, zeros, ofLength, ofLengths, answeredAs, reservedAs, releasedAs, splitAs, newOn, markOn, reserveOn, releaseOn, splitOn}
 

@@ -6,13 +6,13 @@ use native.Mathlib.Omega.{arith}
 use native.Mathlib.Numerals.{add-one}
 use lib.ListN.{length, take, drop, getD, set, replicate, length-set, length-drop}
 use lib.Seq.{take-suc, take-suc-set, take-all, set-at}
-use Rattle.segments.specs.declared.segment.Segment.{Segment}
+use Rattle.segment.specs.declared.Segment.{Segment}
 use Rattle.segments.specs.declared.table.VirtualMemoryManager.{VirtualMemoryManager}
-use Rattle.segments.specs.Form.{startOf}
+use Rattle.segment.specs.Form.{startOf}
 use Rattle.segments.specs.Table.{noSegment}
 use Rattle.segments.specs.Run.{numbers}
-use Rattle.segments.specs.Words.{tableOf}
-use Rattle.segments.specs.WordsLaws.{rowAt, table-snoc, table-length}
+use Rattle.search.specs.Words.{tableOf}
+use Rattle.search.specs.WordsLaws.{rowAt, table-snoc, table-length}
 use Rattle.segments_c.specs.Lent.{managerOf, wordsOf}
 
 -- ---- reading

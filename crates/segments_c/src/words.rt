@@ -2,7 +2,7 @@
 ghost use mathlib.Core.Path.{_≡_};
 ghost use mathlib.Core.List.{[], _∷_};
 ghost use lib.ListN.{length};
-ghost use Rattle.segments.specs.Words.{tableOf};
+ghost use Rattle.search.specs.Words.{tableOf};
 ghost use Rattle.segments_c.specs.Lent.{managerOf, wordsOf};
 use address::VirtAddr;
 use segments::Segment;

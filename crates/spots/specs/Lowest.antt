@@ -7,15 +7,15 @@ use native.Mathlib.Omega.{arith}
 use lib.Dec.{eqb, ltb}
 use borrow.Author.Tests.{eq-eqb, ne-eqb, lt-ltb, le-ltb}
 use Rattle.address.specs.declared.VirtAddr.{VirtAddr}
-use Rattle.segments.specs.declared.segment.Segment.{Segment}
-use Rattle.segments.specs.declared.search.Search.{Search}
-use Rattle.segments.specs.declared.search.Search.the-variants.{Full}
+use Rattle.segment.specs.declared.Segment.{Segment}
+use Rattle.search.specs.declared.Search.{Search}
+use Rattle.search.specs.declared.Search.the-variants.{Full}
 use Rattle.segments.specs.Table.{empty}
-use Rattle.segments.specs.Search.{search, ahead}
+use Rattle.search.specs.Search.{search, ahead}
 use Rattle.segments.specs.Calls.{lowest}
-use Rattle.segments.specs.Words.{tableOf}
-use Rattle.segments.specs.WordsLaws.{table-length}
-use Rattle.segments.specs.Tries.{ahead-le}
+use Rattle.search.specs.Words.{tableOf}
+use Rattle.search.specs.WordsLaws.{table-length}
+use Rattle.search.specs.Tries.{ahead-le}
 use Rattle.segments.specs.PlaceLaws.{held-stored}
 use Rattle.model.specs.declared.Process.{Process}
 use Rattle.model.specs.declared.Place.{Place}

@@ -7,12 +7,12 @@ use native.Mathlib.Omega.{arith}
 use lib.Dec.{ltb}
 use borrow.Author.Tests.{eq-eqb, ne-eqb}
 use Rattle.address.specs.Tells.{not-told, tells-same}
-use Rattle.segments.specs.declared.segment.Segment.{Segment}
-use Rattle.segments.specs.declared.search.Found.the-variants.{In}
-use Rattle.segments.specs.Form.{beforeb, overb}
-use Rattle.segments.specs.FormLaws.{ltb-tells, tells-as, over-tells}
+use Rattle.segment.specs.declared.Segment.{Segment}
+use Rattle.search.specs.declared.Found.the-variants.{In}
+use Rattle.segment.specs.Form.{beforeb, overb}
+use Rattle.segment.specs.FormLaws.{ltb-tells, tells-as, over-tells}
 use Rattle.segments.specs.Table.{insert}
-use Rattle.segments.specs.Search.{firstOver}
+use Rattle.search.specs.Search.{firstOver}
 use Rattle.segments.specs.Calls.{segment, isIn, overlapsb}
 use Rattle.model.specs.declared.Region.{Region}
 use Rattle.model.specs.declared.Found.{Found}

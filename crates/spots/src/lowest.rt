@@ -11,7 +11,7 @@ use crate::sorted::segments_of;
 use crate::taken::reserved;
 use model::Found;
 use model::Place;
-use segments::Search;
+use search::Search;
 use tables::processes::process_at;
 
 // The start that a search found.
@@ -43,8 +43,8 @@ pub fn lowest_start(words: &[u64], process: usize, len: u64) -> Found
     let mut table = [0u64; 128];
     let count = segments_of(words, process, &mut table);
     let last = arena.start.0 + (arena.size - 1);
-    let search = segments::lowest_start(&table, count, last, len, arena.start.0, 0);
-    found_start(search)
+    let found = search::lowest_start(&table, count, last, len, arena.start.0, 0);
+    found_start(found)
 }
 
 // Where a segment of `len` bytes goes: the given start if nothing is reserved there, or the lowest free one.

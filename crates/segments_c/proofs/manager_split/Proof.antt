@@ -1,7 +1,7 @@
 -- `manager_split` meets its contract, one law for each way through it.
 use mathlib.Core.Path.{ap, _∙_}
 use borrow.Author.Needs.{needs}
-use Rattle.segments.specs.declared.segment.Segment.{Segment}
+use Rattle.segment.specs.declared.Segment.{Segment}
 use Rattle.segments.specs.Calls.{splitCall}
 use Rattle.segments_c.specs.Lent.{splitOn}
 use Rattle.segments_c.specs.LentLaws.{other-words-out, other-out, split-is, split-parts, split-refused}

@@ -1,6 +1,6 @@
 -- `VirtualMemoryManager::new` is newCall: one law a way.
 use mathlib.Core.Path.{ap, _∙_}
-use Rattle.segments.specs.Form.{formOf}
+use Rattle.segment.specs.Form.{formOf}
 use Rattle.segments.specs.CallLaws.{new-good, new-bad}
 use borrow.Author.Needs.{needs}
 use Rattle.segments.proofs.table.VirtualMemoryManager.new.Statement.{statement}

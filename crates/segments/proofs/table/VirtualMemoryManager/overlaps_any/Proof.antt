@@ -1,7 +1,7 @@
 -- `VirtualMemoryManager::overlaps_any` is overlapsb: one law a way.
 use native.Mathlib.Omega.{arith}
 use mathlib.Core.Path.{refl}
-use Rattle.segments.specs.FormLaws.{form-last}
+use Rattle.segment.specs.FormLaws.{form-last}
 use Rattle.segments.specs.CallLaws.{any-empty, any-in, any-none, checked-most, checked-formed}
 use borrow.Author.Needs.{needs}
 use Rattle.segments.proofs.table.VirtualMemoryManager.overlaps_any.Statement.{statement}

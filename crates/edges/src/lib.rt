@@ -1,0 +1,1 @@
+// Theorems alone: what the definitions of crate `model` compute beside the edges.

@@ -1,0 +1,3 @@
+-- What loads and stores are proved by.
+pub mod MappedLaws
+pub mod AccessLaws

@@ -1,0 +1,141 @@
+-- Laws of a segment's form, order and overlap, one for each way through the code that tests them.
+use mathlib.Core.Path.{_≡_, refl, ap, sym, subst, _∙_}
+use mathlib.Core.Logic.{_⊎_, inl, inr, ⊎-elim}
+use mathlib.Core.Bool.{Bool, true, false, not, _&&_, _||_, cond}
+use Prim.Native.Nat.{ℕ, zero, suc, _+_, _-_, _^_, _≤_, _<_}
+use native.Mathlib.Omega.{arith}
+use lib.Dec.{eqb, ltb, leb}
+use borrow.Author.Tests.{eqb-true, eqb-false, ltb-true, ltb-false, leb-true, leb-false, eq-eqb, ne-eqb, lt-ltb, le-ltb, le-leb, lt-leb}
+use Rattle.answers.specs.declared.Refusal.the-variants.{BadAddress, BadRange}
+use Rattle.address.specs.Canonical.{canonical}
+use Rattle.address.specs.Tells.{Tells, tells-of, told, not-told, tells-same, tells-both}
+use Rattle.segment.specs.declared.Segment.{Segment}
+use Rattle.segment.specs.declared.Answered.{Answered}
+use Rattle.segment.specs.declared.Answered.the-variants.{Done, Refused}
+use Rattle.segment.specs.Form.{startOf, lastOf, emptyb, inHalf, formOf, done, sameb, beforeb, overb, Same, Before, Over}
+
+-- ---- tests as propositions
+
+pub eqb-tells : (a b : ℕ) → Tells (eqb a b) (a ≡ b)
+eqb-tells a b = tells-of (eqb a b) (eqb-true a b) (eq-eqb a b)
+
+pub ltb-tells : (a b : ℕ) → Tells (ltb a b) (a < b)
+ltb-tells a b = tells-of (ltb a b) (ltb-true a b) (lt-ltb a b)
+
+pub leb-tells : (a b : ℕ) → Tells (leb a b) (a ≤ b)
+leb-tells a b = tells-of (leb a b) (leb-true a b) (le-leb a b)
+
+pub not-tells : {b : Bool} {P : Type 0} → Tells b P → Tells (not b) (P → ⊥)
+not-tells {b = true} t = record { yes = λ e. absurd (mathlib.Core.Bool.false≢true e); no = λ e n. n (t .yes refl) }
+not-tells {b = false} t = record { yes = λ e. t .no refl; no = λ e n. mathlib.Core.Bool.true≢false e }
+
+pub either-tells : {a b : Bool} {P Q : Type 0} → Tells a P → Tells b Q → Tells (a || b) (P ⊎ Q)
+either-tells {a = true} s t = record { yes = λ e. inl (s .yes refl); no = λ e n. mathlib.Core.Bool.true≢false e }
+either-tells {a = false} s t = record { yes = λ e. inr (t .yes e); no = λ e n. ⊎-elim (s .no refl) (t .no e) n }
+
+pub tells-as : {b : Bool} {P Q : Type 0} → Tells b P → (P → Q) → (Q → P) → Tells b Q
+tells-as t f g = record { yes = λ e. f (t .yes e); no = λ e q. t .no e (g q) }
+
+-- ---- order and overlap
+
+pub same-tells : (a b : Segment) → Tells (sameb a b) (Same a b)
+same-tells a b = tells-as (tells-both (eqb-tells (startOf a) (startOf b)) (eqb-tells (a .len) (b .len))) (λ p. record { starts = p .0; lens = p .1 }) (λ s. (s .starts, s .lens))
+
+pub before-tells : (a b : Segment) → Tells (beforeb a b) (Before a b)
+before-tells a b = either-tells (ltb-tells _ _) (tells-both (eqb-tells _ _) (ltb-tells _ _))
+
+pub over-tells : (s : Segment) (first last : ℕ) → Tells (overb s first last) (Over s first last)
+over-tells s first last =
+    tells-as (tells-both (not-tells (eqb-tells (s .len) 0)) (tells-both (leb-tells first (lastOf s)) (leb-tells (startOf s) last)))
+    (λ p. record { some = p .0; reaches = p .1 .0; begins = p .1 .1 })
+    (λ o. (o .some, (o .reaches, o .begins)))
+
+-- the same start and length make the same segment
+pub same-is : (a b : Segment) → Same a b → a ≡ b
+same-is a b s = λ k. record { start = record { 0 = s .starts k }; len = s .lens k }
+
+module _ (a b : Segment) where
+  pub is-starts : startOf a ≡ startOf b → eqb (a .len) (b .len) ≡ sameb a b
+  is-starts e = rw (eq-eqb (startOf a) (startOf b) e)
+
+  pub is-not : (startOf a ≡ startOf b → ⊥) → false ≡ sameb a b
+  is-not n = rw (ne-eqb (startOf a) (startOf b) n)
+
+  pub before-starts : startOf a ≡ startOf b → ltb (a .len) (b .len) ≡ beforeb a b
+  before-starts e = rw (eq-eqb (startOf a) (startOf b) e, le-ltb (startOf a) (startOf b) (omega arith))
+
+  pub before-apart : (startOf a ≡ startOf b → ⊥) → ltb (startOf a) (startOf b) ≡ beforeb a b
+  before-apart n = rw (ne-eqb (startOf a) (startOf b) n) (sym (mathlib.Core.Bool.or-false _))
+
+module _ (s : Segment) (first last : ℕ) where
+  pub over-empty : s .len ≡ 0 → false ≡ overb s first last
+  over-empty e = sym (not-told (over-tells s first last) (λ o. o .some e))
+
+  pub over-after : last < startOf s → false ≡ overb s first last
+  over-after h = sym (not-told (over-tells s first last) (λ o. let b = o .begins in omega arith))
+
+  module _ (n : s .len ≡ 0 → ⊥) (b : startOf s ≤ last) where
+    pub over-inside : first ≤ startOf s → true ≡ overb s first last
+    over-inside h = sym (told (over-tells s first last) (record { some = n; reaches = omega arith; begins = b }))
+
+    pub over-reaches : startOf s < first → leb (first - startOf s) (s .len - 1) ≡ overb s first last
+    over-reaches h = tells-same
+        (tells-as (leb-tells (first - startOf s) (s .len - 1)) (λ l. record { some = n; reaches = omega arith; begins = b }) (λ o. let r = o .reaches in omega arith))
+        (over-tells s first last)
+
+-- ---- form
+
+module _ (s : Segment) where
+  pub form-address : canonical (startOf s) ≡ false → Refused BadAddress ≡ formOf s
+  unfolding formOf
+  form-address e = rw e
+
+  module _ (c : canonical (startOf s) ≡ true) where
+    pub form-empty : s .len ≡ 0 → Done ≡ formOf s
+    unfolding formOf
+    form-empty e = rw (c, eq-eqb (s .len) 0 e)
+
+    module _ (n : s .len ≡ 0 → ⊥) where
+      form-half : (b : Bool) → inHalf s ≡ b → cond b Done (Refused BadRange) ≡ formOf s
+      unfolding formOf
+      form-half b e = rw (c, ne-eqb (s .len) 0 n, e)
+
+      half-low : startOf s < 2 ^ 47 → inHalf s ≡ ltb (lastOf s) (2 ^ 47)
+      unfolding inHalf
+      half-low h = rw (lt-ltb (startOf s) (2 ^ 47) h)
+
+      half-high : 2 ^ 47 ≤ startOf s → inHalf s ≡ ltb (lastOf s) (2 ^ 64)
+      unfolding inHalf
+      half-high h = rw (le-ltb (startOf s) (2 ^ 47) h)
+
+      pub form-low : startOf s < 2 ^ 47 → s .len ≤ 2 ^ 47 - startOf s → Done ≡ formOf s
+      form-low h l = form-half true (half-low h ∙ lt-ltb (lastOf s) (2 ^ 47) (omega arith))
+
+      pub form-low-past : startOf s < 2 ^ 47 → 2 ^ 47 - startOf s < s .len → Refused BadRange ≡ formOf s
+      form-low-past h l = form-half false (half-low h ∙ le-ltb (lastOf s) (2 ^ 47) (omega arith))
+
+      pub form-high : 2 ^ 47 ≤ startOf s → startOf s < 2 ^ 64 → s .len - 1 ≤ 18446744073709551615 - startOf s → Done ≡ formOf s
+      form-high h f l = form-half true (half-high h ∙ lt-ltb (lastOf s) (2 ^ 64) (omega arith))
+
+      pub form-high-past : 2 ^ 47 ≤ startOf s → startOf s < 2 ^ 64 → 18446744073709551615 - startOf s < s .len - 1 → Refused BadRange ≡ formOf s
+      form-high-past h f l = form-half false (half-high h ∙ le-ltb (lastOf s) (2 ^ 64) (omega arith))
+
+-- a well-formed segment's last byte is an address
+pub form-last : (s : Segment) → startOf s < 2 ^ 64 → formOf s ≡ Done → lastOf s < 2 ^ 64
+form-last s f e = by-len (eqb (s .len) 0) refl
+  where
+    clash : {A : Type 0} → Refused BadRange ≡ formOf s → A
+    clash p = absurd (mathlib.Core.Bool.false≢true (ap done (p ∙ e)))
+
+    clash-address : {A : Type 0} → Refused BadAddress ≡ formOf s → A
+    clash-address p = absurd (mathlib.Core.Bool.false≢true (ap done (p ∙ e)))
+
+    in-half : (x : Bool) → ltb (lastOf s) (2 ^ 64) ≡ x → (k : Bool) → canonical (startOf s) ≡ k → (h : Bool) → ltb (startOf s) (2 ^ 47) ≡ h → (s .len ≡ 0 → ⊥) → lastOf s < 2 ^ 64
+    in-half true p k c h q n = ltb-true _ _ p
+    in-half false p false c h q n = clash-address (form-address s c)
+    in-half false p true c true q n = let l = ltb-false (lastOf s) (2 ^ 64) p in let m = ltb-true (startOf s) (2 ^ 47) q in clash (form-low-past s c n m (omega arith))
+    in-half false p true c false q n = let l = ltb-false (lastOf s) (2 ^ 64) p in clash (form-high-past s c n (ltb-false (startOf s) (2 ^ 47) q) f (omega arith))
+
+    by-len : (z : Bool) → eqb (s .len) 0 ≡ z → lastOf s < 2 ^ 64
+    by-len true p = let l = eqb-true (s .len) 0 p in omega arith
+    by-len false p = in-half _ refl _ refl _ refl (eqb-false (s .len) 0 p)

@@ -1,0 +1,3 @@
+-- What a segment is, and its laws.
+pub mod Form
+pub mod FormLaws

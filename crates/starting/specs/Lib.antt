@@ -1,0 +1,3 @@
+-- What start does, and its laws.
+pub mod Start
+pub mod StartLaws
