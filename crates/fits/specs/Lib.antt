@@ -12,3 +12,4 @@ pub mod Entries
 pub mod Ordered
 pub mod Pages
 pub mod Apart
+pub mod Ascending

@@ -1,5 +1,7 @@
-// R1: attached and detached regions of a process have disjoint segments.
+// R1: attached and detached regions of a process have disjoint segments. Where they rise from slot to slot, one pass tells; else
+// every two are compared.
 ghost use mathlib.Core.Path.{_≡_};
+ghost use mathlib.Core.Bool.{true};
 ghost use Prim.Native.Nat.{_+_, _*_, _<_};
 ghost use lib.ListN.{length, getD, drop};
 ghost use lib.Dec.{leb};
@@ -69,8 +71,8 @@ fn slot_is_apart(words: &[u64], process: usize, slot: usize) -> bool
     is_apart_from_later(words, process, slot, region)
 }
 
-// Whether every two regions of a process have disjoint segments.
-fn process_is_disjoint(words: &[u64], process: usize) -> bool
+// Whether every two regions of a process have disjoint segments, by comparing every two.
+fn pairs_are_apart(words: &[u64], process: usize) -> bool
     requires { ⌜ length (now words) ≡ wordCount ⌝ }
     requires { ⌜ process < 8 ⌝ }
     ensures { λ r. ⌜ r ≡ allPairs isUsed apartb (regionsOf (machine (now (words .entry))) process) ⌝ }
@@ -83,6 +85,42 @@ fn process_is_disjoint(words: &[u64], process: usize) -> bool
         i += 1;
     }
     true
+}
+
+// Whether the segments of a process's regions rise from slot to slot: then every two are disjoint.
+fn segments_rise(words: &[u64], process: usize) -> bool
+    requires { ⌜ length (now words) ≡ wordCount ⌝ }
+    requires { ⌜ process < 8 ⌝ }
+    ensures { λ r. ⌜ (r ≡ true → allPairs isUsed apartb (regionsOf (machine (now (words .entry))) process) ≡ true) ⌝ }
+{
+    let mut start = 0;
+    let mut size = 0;
+    let mut i = 0;
+    while i < 64 {
+        let region = region_at(words, process * 64 + i);
+        i += 1;
+        if region.kind == 0 {
+            continue;
+        }
+        if !ends_by(start, size, region.start.0) {
+            return false;
+        }
+        start = region.start.0;
+        size = region.size;
+    }
+    true
+}
+
+// Whether every two regions of a process have disjoint segments.
+fn process_is_disjoint(words: &[u64], process: usize) -> bool
+    requires { ⌜ length (now words) ≡ wordCount ⌝ }
+    requires { ⌜ process < 8 ⌝ }
+    ensures { λ r. ⌜ r ≡ allPairs isUsed apartb (regionsOf (machine (now (words .entry))) process) ⌝ }
+{
+    if segments_rise(words, process) {
+        return true;
+    }
+    pairs_are_apart(words, process)
 }
 
 // R1 of every process.

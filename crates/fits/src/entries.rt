@@ -9,8 +9,10 @@ ghost use Rattle.model.specs.Tests.{allRows};
 ghost use Rattle.model.specs.SoundTest.{freeEntryRow, enteredb, entryFits};
 ghost use Rattle.fits.specs.Entries.{takesEntry};
 use address::Page;
+use address::VirtAddr;
 use model::Entry;
 use model::Region;
+use tables::attached::region_contains;
 use tables::backed::backing_from;
 use tables::pages::entry_at;
 use tables::regions::region_at;
@@ -81,8 +83,19 @@ fn takes_entry(region: Region, page: Page) -> bool
     starts_in(region, page)
 }
 
-// Whether a page starts in a region. Counted in pages from the first page start in the region on, since bytes may be too many.
+// Whether a page starts in a region.
 fn starts_in(region: Region, page: Page) -> bool
+    ensures { λ r. ⌜ r ≡ contains region (pageStart (page .0)) ⌝ }
+{
+    if page.0 < 0x10_0000_0000_0000 {
+        let start = VirtAddr(page.0 * 4096);
+        return region_contains(region, start);
+    }
+    starts_far(region, page)
+}
+
+// Whether a page starts in a region, counted in pages from the first page start in the region on, since bytes may be too many.
+fn starts_far(region: Region, page: Page) -> bool
     ensures { λ r. ⌜ r ≡ contains region (pageStart (page .0)) ⌝ }
 {
     let first = pages_for(region.start.0);

@@ -24,27 +24,29 @@ use Rattle.holds.specs.Tally.{Tallied, unheld, freeUnheld, heldTimes}
 
 -- of k holders, a count for each mark
 pub record Counts (w : List ℕ) (counts : List ℕ) (k : ℕ) : Type 0 where
-  pub sized : length counts ≡ 257
-  pub each : (f : ℕ) → f < 257 → Counted (at f) (heldRows (machine w)) 1024 k (getD counts f 0)
+  pub low : k ≤ 1024
+  pub sized : length counts ≡ 256
+  pub each : (f : ℕ) → f < 256 → Counted (at f) (heldRows (machine w)) 1024 k (getD counts f 0)
 
-pub counts-first : (w : List ℕ) → Counts w (replicate 257 0) 0
+pub counts-first : (w : List ℕ) → Counts w (replicate 256 0) 0
 counts-first w = record {
-  sized = length-replicate {A = ℕ} 257 0;
-  each = λ f h. subst (λ (n : ℕ). Counted (at f) (heldRows (machine w)) 1024 0 n) (sym (getD-replicate 257 f 0 0 h)) (count-first (at f) (heldRows (machine w)) 1024 (held-length w));
+  low = omega arith;
+  sized = length-replicate {A = ℕ} 256 0;
+  each = λ f h. subst (λ (n : ℕ). Counted (at f) (heldRows (machine w)) 1024 0 n) (sym (getD-replicate 256 f 0 0 h)) (count-first (at f) (heldRows (machine w)) 1024 (held-length w));
 }
 
 module _ (w counts : List ℕ) (k : ℕ) (so : Counts w counts k) where
   -- no count is too large
-  pub counts-few : (f : ℕ) → f < 257 → getD counts f 0 ≤ k
+  pub counts-few : (f : ℕ) → f < 256 → getD counts f 0 ≤ k
   counts-few f h = so .each f h .1 .0
 
-  pub counts-more : k < 1024 → (x : Held) → x ≡ getD (heldRows (machine w)) k noHeld → x .frame < 257 → Counts w (set counts (x .frame) (getD counts (x .frame) 0 + 1)) (k + 1)
-  counts-more h x read l = record { sized = length-set counts (x .frame) (getD counts (x .frame) 0 + 1) ∙ so .sized; each = λ f i. go f i (ℕ-discrete f (x .frame)) }
+  pub counts-more : k < 1024 → (x : Held) → x ≡ getD (heldRows (machine w)) k noHeld → x .frame < 256 → Counts w (set counts (x .frame) (getD counts (x .frame) 0 + 1)) (k + 1)
+  counts-more h x read l = record { low = omega arith; sized = length-set counts (x .frame) (getD counts (x .frame) 0 + 1) ∙ so .sized; each = λ f i. go f i (ℕ-discrete f (x .frame)) }
     where
-      more : (f : ℕ) → f < 257 → (t : ℕ) → t ≡ cond (at f x) 1 0 → Counted (at f) (heldRows (machine w)) 1024 (k + 1) (getD counts f 0 + t)
+      more : (f : ℕ) → f < 256 → (t : ℕ) → t ≡ cond (at f x) 1 0 → Counted (at f) (heldRows (machine w)) 1024 (k + 1) (getD counts f 0 + t)
       more f i t e = count-more (at f) (heldRows (machine w)) 1024 (held-length w) k (getD counts f 0) (so .each f i) h noHeld x read t e
 
-      go : (f : ℕ) → f < 257 → Dec (f ≡ x .frame) → Counted (at f) (heldRows (machine w)) 1024 (k + 1) (getD (set counts (x .frame) (getD counts (x .frame) 0 + 1)) f 0)
+      go : (f : ℕ) → f < 256 → Dec (f ≡ x .frame) → Counted (at f) (heldRows (machine w)) 1024 (k + 1) (getD (set counts (x .frame) (getD counts (x .frame) 0 + 1)) f 0)
       go f i (yes e) = subst (λ (n : ℕ). Counted (at f) (heldRows (machine w)) 1024 (k + 1) n) (sym same) (more f i 1 (rw (eq-eqb (x .frame) f (sym e))))
         where
           same : getD (set counts (x .frame) (getD counts (x .frame) 0 + 1)) f 0 ≡ getD counts f 0 + 1
@@ -53,6 +55,13 @@ module _ (w counts : List ℕ) (k : ℕ) (so : Counts w counts k) where
         where
           same : getD (set counts (x .frame) (getD counts (x .frame) 0 + 1)) f 0 ≡ getD counts f 0 + 0
           same = let o = getD-set-other counts (x .frame) f (getD counts (x .frame) 0 + 1) 0 n in omega arith
+
+  -- holder k holds no frame
+  pub counts-skip : k < 1024 → (x : Held) → x ≡ getD (heldRows (machine w)) k noHeld → x .frame ≡ 256 → Counts w counts (k + 1)
+  counts-skip h x read none = record { low = omega arith; sized = so .sized; each = λ f i. subst (λ (n : ℕ). Counted (at f) (heldRows (machine w)) 1024 (k + 1) n) (omega arith) (count-more (at f) (heldRows (machine w)) 1024 (held-length w) k (getD counts f 0) (so .each f i) h noHeld x read 0 (rw (ne-eqb (x .frame) f (omega arith)))) }
+
+  pub counts-to : (n : ℕ) → k ≡ n → Counts w counts n
+  counts-to n e = subst (λ (j : ℕ). Counts w counts j) e so
 
   pub counts-all : 1024 ≤ k → Tallied (machine w) counts
   counts-all h f i = count-all (at f) (heldRows (machine w)) 1024 (held-length w) k (getD counts f 0) (so .each f (omega arith)) h ∙ sym (holders-counted (machine w) f i)

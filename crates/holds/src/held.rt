@@ -36,7 +36,8 @@ pub fn held_by(words: &[u64], k: usize) -> Held
     by_range(r)
 }
 
-fn by_entry(e: Entry) -> Held
+// What an entry holds.
+pub fn by_entry(e: Entry) -> Held
     ensures { λ r. ⌜ r ≡ entryHeld e ⌝ }
     ensures { λ r. ⌜ r .frame < 257 ⌝ }
 {
@@ -48,7 +49,8 @@ fn by_entry(e: Entry) -> Held
     }
 }
 
-fn by_range(region: Region) -> Held
+// What the region in a slot holds.
+pub fn by_range(region: Region) -> Held
     ensures { λ r. ⌜ r ≡ rangeHeld region ⌝ }
     ensures { λ r. ⌜ r .frame < 257 ⌝ }
 {

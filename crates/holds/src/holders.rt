@@ -5,9 +5,13 @@ ghost use lib.ListN.{length};
 ghost use Rattle.model.specs.Layout.{wordCount, machine};
 ghost use Rattle.model.specs.SoundTest.{r3b};
 ghost use Rattle.holds.specs.Tally.{Tallied, heldTimes, freeUnheld};
-use crate::held::held_by;
+ghost use Rattle.holds.specs.TallyLaws.{Counts};
+use crate::held::by_entry;
+use crate::held::by_range;
 use model::Backing;
 use tables::frames::backing_at;
+use tables::pages::entry_at;
+use tables::regions::region_at;
 
 // Whether every backing has its holders, at least one, and a row without a backing has none.
 pub fn counted(words: &[u64]) -> bool
@@ -39,19 +43,52 @@ fn is_held(b: Backing, times: u64) -> bool
     b.holders == times
 }
 
-// How many hold each frame; the last mark counts the others.
-fn tally(words: &[u64]) -> [u16; 257]
+// How many hold each frame.
+fn tally(words: &[u64]) -> [u16; 256]
     requires { ⌜ length (now words) ≡ wordCount ⌝ }
-    ensures { λ r. ⌜ length r ≡ 257 ⌝ }
+    ensures { λ r. ⌜ length r ≡ 256 ⌝ }
     ensures { λ r. ⌜ Tallied (machine (now (words .entry))) r ⌝ }
 {
-    let mut counts = [0; 257];
-    let mut k = 0;
-    while k < 1024 {
-        let h = held_by(words, k);
-        let frame = h.frame;
-        counts[frame] += 1;
-        k += 1;
-    }
+    let mut counts = [0; 256];
+    tally_entries(words, &mut counts);
+    tally_ranges(words, &mut counts);
     counts
+}
+
+// Counts the entries, holders 0 to 511.
+fn tally_entries(words: &[u64], counts: &mut [u16])
+    requires { ⌜ length (now words) ≡ wordCount ⌝ }
+    requires { ⌜ Counts (now words) (now counts) 0 ⌝ }
+    ensures { λ _. ⌜ Counts (now (words .entry)) (now (counts .exit)) 512 ⌝ }
+{
+    let mut k = 0;
+    while k < 512 {
+        let entry = entry_at(words, k);
+        let h = by_entry(entry);
+        let frame = h.frame;
+        k += 1;
+        if frame == 256 {
+            continue;
+        }
+        counts[frame] += 1;
+    }
+}
+
+// Counts the ranges, holders 512 to 1023.
+fn tally_ranges(words: &[u64], counts: &mut [u16])
+    requires { ⌜ length (now words) ≡ wordCount ⌝ }
+    requires { ⌜ Counts (now words) (now counts) 512 ⌝ }
+    ensures { λ _. ⌜ Counts (now (words .entry)) (now (counts .exit)) 1024 ⌝ }
+{
+    let mut k = 512;
+    while k < 1024 {
+        let region = region_at(words, k - 512);
+        let h = by_range(region);
+        let frame = h.frame;
+        k += 1;
+        if frame == 256 {
+            continue;
+        }
+        counts[frame] += 1;
+    }
 }

@@ -14,6 +14,7 @@ ghost use Rattle.homes.specs.MappedHome.{homeAt};
 ghost use Rattle.homes.specs.MappedFit.{allFit, allows, rangeAllows};
 ghost use Rattle.homes.specs.MappedMarks.{ofProcess, Seen};
 ghost use Rattle.homes.specs.MappedTests.{isOwn};
+ghost use Rattle.homes.specs.MappedSpans.{ProcessOf, Spanned, Unspanned, Spans};
 ghost use Rattle.homes.specs.MappedEntries.{RowOf, After, AfterAll};
 ghost use Rattle.homes.specs.MappedRows.{AttachedAt, holdsIn, fittingHome};
 use address::Page;
@@ -130,17 +131,18 @@ fn mark_entry(words: &[u64], process: usize, i: usize, near: usize, marks: &mut 
     Marking::Fits(row + 1)
 }
 
-// Marks the mapped rows whose pages have an entry; no where a mapping is not what its entry allows. Entries mostly come in page
-// order, so each is looked for first in the row after the last one's.
-fn mark_entries(words: &[u64], process: usize, marks: &mut [u8]) -> bool
+// Marks the mapped rows whose pages have an entry; no where a mapping is not what its entry allows. The process's entries lie from
+// one row up to another. They mostly come in page order, so each is looked for first in the row after the last one's.
+fn mark_entries(words: &[u64], process: usize, from: usize, to: usize, marks: &mut [u8]) -> bool
     requires { ⌜ length (now words) ≡ wordCount ⌝ }
     requires { ⌜ process < 8 ⌝ }
+    requires { ⌜ (from ≤ 512) × (to ≤ 512) ⌝ }
     requires { ⌜ length (now marks) ≡ 128 ⌝ }
-    ensures { λ r. ⌜ (Laid (machine (now (words .entry))) → Seen (machine (now (words .entry))) process 0 (now (marks .entry)) → AfterAll (machine (now (words .entry))) process (now (marks .exit)) r) ⌝ }
+    ensures { λ r. ⌜ (Laid (machine (now (words .entry))) → Spanned (machine (now (words .entry))) process from to → Seen (machine (now (words .entry))) process 0 (now (marks .entry)) → AfterAll (machine (now (words .entry))) process (now (marks .exit)) r) ⌝ }
 {
     let mut near = 0;
-    let mut i = 0;
-    while i < 512 {
+    let mut i = from;
+    while i < to {
         let Marking::Fits(next) = mark_entry(words, process, i, near, marks) else {
             return false;
         };
@@ -253,21 +255,64 @@ fn rows_fit(words: &[u64], process: usize, marks: &[u8]) -> bool
     true
 }
 
-// R4 and R5 of a process: one pass over the entries, then one over its mapped pages.
-fn process_mapped_fit(words: &[u64], process: usize) -> bool
+// R4 and R5 of a process whose entries lie from one row up to another: one pass over these, then one over its mapped pages.
+fn process_mapped_fit(words: &[u64], process: usize, from: usize, to: usize) -> bool
     requires { ⌜ length (now words) ≡ wordCount ⌝ }
     requires { ⌜ process < 8 ⌝ }
-    ensures { λ r. ⌜ (Laid (machine (now (words .entry))) → r ≡ allFit (machine (now (words .entry))) process) ⌝ }
+    requires { ⌜ (from ≤ 512) × (to ≤ 512) ⌝ }
+    ensures { λ r. ⌜ (Laid (machine (now (words .entry))) → Spanned (machine (now (words .entry))) process from to → r ≡ allFit (machine (now (words .entry))) process) ⌝ }
 {
     let n = mapped_count(words, process);
     if n == 0 {
         return true;
     }
     let mut marks = [0u8; 128];
-    if !mark_entries(words, process, &mut marks) {
+    if !mark_entries(words, process, from, to, &mut marks) {
         return false;
     }
     rows_fit(words, process, &marks)
+}
+
+// The process of an entry's owner; 8 where it has none.
+fn process_of(entry: Entry) -> usize
+    ensures { λ r. ⌜ ProcessOf entry r ⌝ }
+{
+    if entry.owner == 0 {
+        return 8;
+    }
+    if 512 < entry.owner {
+        return 8;
+    }
+    ((entry.owner - 1) / 64) as usize
+}
+
+// Of each process the row of the first entry, 512 where it has none, and the row after the last. An entry of the same process as
+// the one before is not its first.
+fn span_entries(words: &[u64], firsts: &mut [usize], pasts: &mut [usize])
+    requires { ⌜ length (now words) ≡ wordCount ⌝ }
+    requires { ⌜ Unspanned (now firsts) (now pasts) ⌝ }
+    ensures { λ _. ⌜ Spans (machine (now (words .entry))) (now (firsts .exit)) (now (pasts .exit)) 512 ⌝ }
+{
+    let mut last = 8;
+    let mut i = 0;
+    while i < 512 {
+        let row = i;
+        let entry = entry_at(words, row);
+        let process = process_of(entry);
+        i += 1;
+        if process == 8 {
+            continue;
+        }
+        pasts[process] = i;
+        if process == last {
+            continue;
+        }
+        last = process;
+        if firsts[process] != 512 {
+            continue;
+        }
+        firsts[process] = row;
+    }
 }
 
 // R4 and R5 of every process.
@@ -275,9 +320,12 @@ pub fn mapped_fit(words: &[u64]) -> bool
     requires { ⌜ length (now words) ≡ wordCount ⌝ }
     ensures { λ r. ⌜ (Laid (machine (now (words .entry))) → r ≡ (r4b (machine (now (words .entry))) && r5b (machine (now (words .entry))))) ⌝ }
 {
+    let mut firsts: [usize; 8] = [512; 8];
+    let mut pasts: [usize; 8] = [0; 8];
+    span_entries(words, &mut firsts, &mut pasts);
     let mut i = 0;
     while i < 8 {
-        if !process_mapped_fit(words, i) {
+        if !process_mapped_fit(words, i, firsts[i], pasts[i]) {
             return false;
         }
         i += 1;

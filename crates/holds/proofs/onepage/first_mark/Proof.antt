@@ -1,17 +1,13 @@
 -- `first_mark` is firstMark.
 use Rattle.holds.specs.OnePageLaws.{new-mark, old-mark}
-use borrow.Author.Needs.{needs}
 use Rattle.holds.proofs.onepage.first_mark.Statement.{statement}
 use Rattle.holds.proofs.onepage.first_mark.Tie as tie
 
-add-result : tie.Need-add-result
-add-result c = search needs
-
 returns : tie.Need-returns
-returns c = new-mark (c .before .args .mark) (c .before .args .k) (c .if1 .taken)
+returns c = new-mark (c .before .args .mark) (c .before .args .number) (c .if1 .taken)
 
 returns-2 : tie.Need-returns-2
-returns-2 c = old-mark (c .before .args .mark) (c .before .args .k) (c .if1 .left)
+returns-2 c = old-mark (c .before .args .mark) (c .before .args .number) (c .if1 .left)
 
 pub first-mark-spec : {M : Type 1} → statement M
-first-mark-spec = tie.close (tie.spec add-result returns returns-2)
+first-mark-spec = tie.close (tie.spec returns returns-2)

@@ -6,15 +6,12 @@ use Rattle.homes.specs.MappedRows.{none-mapped}
 use borrow.Author.Needs.{needs}
 use Rattle.homes.proofs.mapped.process_mapped_fit.Statement.{statement}
 use Rattle.homes.proofs.mapped.process_mapped_fit.Tie as tie
-use Rattle.paging.proofs.search.mapped_count.Reads as mapped-count-reads
-use Rattle.homes.proofs.mapped.mark_entries.Reads as mark-entries-reads
-use Rattle.homes.proofs.mapped.rows_fit.Reads as rows-fit-reads
 
 mapped-count-requires : tie.Need-mapped-count-requires
 mapped-count-requires c κs = search needs
 
 returns : tie.Need-returns
-returns c = λ laid. none-mapped (machine (c .before .before .before .args .words .now)) (c .before .before .before .args .process) _ (c .before .mapped-count .ensures .0) (c .if1 .taken)
+returns c = λ laid span. none-mapped (machine (c .before .before .before .args .words .now)) (c .before .before .before .args .process) _ (c .before .mapped-count .ensures .0) (c .if1 .taken)
 
 slice-aggregate-mark-entries : tie.Need-slice-aggregate-mark-entries
 slice-aggregate-mark-entries c = search needs
@@ -23,7 +20,7 @@ mark-entries-requires : tie.Need-mark-entries-requires
 mark-entries-requires c κs = search needs
 
 returns-2 : tie.Need-returns-2
-returns-2 c = λ laid. some-misfit (machine (c .before .before .before .before .before .before .before .args .words .now)) (c .before .before .before .before .before .before .before .args .process) _ _ (c .before .before .mark-entries .ensures laid (seen-first (c .before .before .before .before .before .before .before .args .words .now) (c .before .before .before .before .before .before .before .args .process) (c .before .before .before .before .before .before .before .pre .1))) (not-true _ (c .if2 .taken))
+returns-2 c = let a = c .before .before .before .before .before .before .before .args in λ laid span. some-misfit (machine (a .words .now)) (a .process) _ _ (c .before .before .mark-entries .ensures laid span (seen-first (a .words .now) (a .process) (c .before .before .before .before .before .before .before .pre .1 .0))) (not-true _ (c .if2 .taken))
 
 slice-aggregate-rows-fit : tie.Need-slice-aggregate-rows-fit
 slice-aggregate-rows-fit c = search needs
@@ -32,7 +29,7 @@ rows-fit-requires : tie.Need-rows-fit-requires
 rows-fit-requires c κs = search needs
 
 returns-3 : tie.Need-returns-3
-returns-3 c = λ laid. c .rows-fit .ensures laid (all-marked (machine (c .before .before .before .before .before .before .before .before .before .args .words .now)) (c .before .before .before .before .before .before .before .before .before .args .process) _ _ (c .before .before .before .before .mark-entries .ensures laid (seen-first (c .before .before .before .before .before .before .before .before .before .args .words .now) (c .before .before .before .before .before .before .before .before .before .args .process) (c .before .before .before .before .before .before .before .before .before .pre .1))) (not-false _ (c .before .before .if2 .left)))
+returns-3 c = let a = c .before .before .before .before .before .before .before .before .before .args in λ laid span. c .rows-fit .ensures laid (all-marked (machine (a .words .now)) (a .process) _ _ (c .before .before .before .before .mark-entries .ensures laid span (seen-first (a .words .now) (a .process) (c .before .before .before .before .before .before .before .before .before .pre .1 .0))) (not-false _ (c .before .before .if2 .left)))
 
 pub process-mapped-fit-spec : {M : Type 1} → statement M
 process-mapped-fit-spec =

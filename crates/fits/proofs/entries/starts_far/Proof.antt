@@ -1,8 +1,8 @@
--- `starts_in` is contains, of the page's start.
+-- `starts_far` is contains, of the page's start.
 use borrow.Author.Needs.{needs}
 use Rattle.fits.specs.Entries.{starts-before, starts-nowhere, starts-within}
-use Rattle.fits.proofs.entries.starts_in.Statement.{statement}
-use Rattle.fits.proofs.entries.starts_in.Tie as tie
+use Rattle.fits.proofs.entries.starts_far.Statement.{statement}
+use Rattle.fits.proofs.entries.starts_far.Tie as tie
 
 pages-for-requires : tie.Need-pages-for-requires
 pages-for-requires c κs = search needs
@@ -25,8 +25,8 @@ pages-for-requires-2 c κs = search needs
 returns-3 : tie.Need-returns-3
 returns-3 c = starts-within (c .before .before .before .before .before .before .before .before .before .args .region) (c .before .before .before .before .before .before .before .before .before .args .page .0) _ (c .before .before .before .before .before .before .before .before .pages-for .ensures) (c .before .before .before .before .before .before .if1 .left) (c .before .before .before .if2 .left) _ (c .before .pages-for2 .ensures)
 
-pub starts-in-spec : {M : Type 1} → statement M
-starts-in-spec =
+pub starts-far-spec : {M : Type 1} → statement M
+starts-far-spec =
     tie.close
     (tie.spec
     pages-for-requires
