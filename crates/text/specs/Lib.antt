@@ -1,5 +1,4 @@
 -- The definitions of the script's text, and their laws.
-pub mod Call
 pub mod Lines
 pub mod LinesLaws
 pub mod Number

@@ -9,7 +9,7 @@ use lib.ListN.{length, getD, drop, drop-of-length-le}
 use lib.Seq.{drop-cons}
 use borrow.Author.Tests.{eq-eqb, ne-eqb, lt-ltb, le-ltb}
 use Rattle.text.specs.declared.lines.Held.{Held}
-use Rattle.text.specs.Lines.{lineLength, Gathered}
+use Rattle.text.specs.Lines.{lineLength, withoutReturn, Gathered}
 use Rattle.text.specs.Write.{Put}
 use Rattle.text.specs.WriteLaws.{up-to-end}
 
@@ -25,6 +25,21 @@ module _ (s : List ℕ) (i : ℕ) (inside : i < length s) where
 pub line-past : (s : List ℕ) (i : ℕ) → length s ≤ i → i ≡ i + lineLength (drop i s)
 unfolding lineLength
 line-past s i h = rw (drop-of-length-le s h) (omega arith)
+
+-- ---- a carriage return
+
+pub of-none : (s : List ℕ) → length s ≡ 0 → length s ≡ withoutReturn s
+unfolding withoutReturn
+of-none s e = rw e
+
+module _ (s : List ℕ) (some : length s ≡ 0 → ⊥) where
+  pub return-left : getD s (length s - 1) 0 ≡ 13 → length s - 1 ≡ withoutReturn s
+  unfolding withoutReturn
+  return-left e = rw (ne-eqb (length s) 0 some, eq-eqb (getD s (length s - 1) 0) 13 e)
+
+  pub no-return : (getD s (length s - 1) 0 ≡ 13 → ⊥) → length s ≡ withoutReturn s
+  unfolding withoutReturn
+  no-return e = rw (ne-eqb (length s) 0 some, ne-eqb (getD s (length s - 1) 0) 13 e)
 
 -- ---- gathering
 

@@ -1,7 +1,7 @@
 -- The words of a line: runs of bytes between blanks.
 use mathlib.Core.Bool.{Bool, _||_, cond}
 use mathlib.Core.List.{List, [], _∷_}
-use Prim.Native.Nat.{ℕ, suc, _+_}
+use Prim.Native.Nat.{ℕ, suc, _+_, _-_, _≤_}
 use lib.Dec.{eqb}
 use lib.ListN.{drop}
 use Rattle.text.specs.declared.words.Word.{Word}
@@ -27,3 +27,9 @@ wordFrom s from = record { from = from; to = from + letters (drop from s) }
 -- the first word from `at` on
 unfoldable pub wordAt : List ℕ → ℕ → Word
 wordAt s at = wordFrom s (at + blanks (drop at s))
+
+-- where a word lies in a line of so many bytes: no farther than the line goes
+pub record Lies (n at : ℕ) (w : Word) : Type 0 where
+  pub starts : w .from ≤ at + (n - at)
+  pub ordered : w .from ≤ w .to
+  pub ends : w .to ≤ w .from + (n - w .from)

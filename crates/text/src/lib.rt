@@ -1,28 +1,26 @@
-// The text of a script: lines out of chunks of input, words and numbers out of a line, calls out of words, and answers as text.
-mod answer;
-mod call;
+// The base of a script's text: lines out of chunks of input, words and numbers out of a line, bytes and numbers as text.
 mod lines;
 mod number;
+mod piece;
 mod words;
 mod write;
 
-pub use answer::Answer;
-pub use answer::put_answer;
-pub use answer::put_count;
-pub use answer::put_fault;
-pub use answer::put_pair;
-pub use call::Call;
-pub use call::Fault;
-pub use call::Operand;
-pub use call::held_call;
-pub use call::parse;
 pub use lines::Held;
 pub use lines::gather;
 pub use lines::line_end;
+pub use lines::without_return;
 pub use number::Number;
+pub use number::digit;
 pub use number::read_number;
+pub use piece::put_decimal_word;
+pub use piece::put_end;
+pub use piece::put_hex_word;
+pub use piece::put_with_decimal;
+pub use piece::put_word;
 pub use words::Word;
 pub use words::next_word;
+pub use words::part_of;
+pub use words::word_end;
 pub use write::put;
 pub use write::put_decimal;
 pub use write::put_hex;

@@ -2,7 +2,7 @@
 ghost use mathlib.Core.Path.{_≡_};
 ghost use Prim.Native.Nat.{_+_, _≤_};
 ghost use lib.ListN.{length, drop};
-ghost use Rattle.text.specs.Lines.{lineLength, Gathered};
+ghost use Rattle.text.specs.Lines.{lineLength, withoutReturn, Gathered};
 use crate::write::put;
 
 // How much of a line the buffer holds, and whether the line is longer than the buffer.
@@ -67,6 +67,7 @@ pub fn gather(line: &mut [u8], held: Held, part: &[u8]) -> Held
 
 // The line's length without a carriage return at its end.
 pub fn without_return(line: &[u8]) -> usize
+    ensures { λ r. ⌜ r ≡ withoutReturn (now (line .entry)) ⌝ }
     ensures { λ r. ⌜ r ≤ length (now (line .entry)) ⌝ }
 {
     let n = line.len();

@@ -70,7 +70,7 @@ impl Number {
 }
 
 // The value of a digit, a letter in either case; 16 if the byte is none.
-fn digit(byte: u8) -> u64
+pub fn digit(byte: u8) -> u64
     ensures { λ r. ⌜ r ≡ digitOf byte ⌝ }
 {
     let b = byte as u64;

@@ -1,12 +1,12 @@
 // Words of a line: runs of bytes between blanks.
 ghost use mathlib.Core.Path.{_≡_};
 ghost use mathlib.Core.Bool.{_||_};
-ghost use Prim.Native.Nat.{_+_, _≤_};
+ghost use Prim.Native.Nat.{_+_, _-_, _≤_};
 ghost use lib.Dec.{eqb};
 ghost use lib.ListN.{length, drop};
-ghost use Rattle.text.specs.Words.{blanks, letters, wordAt};
+ghost use Rattle.text.specs.Words.{blanks, letters, wordAt, Lies};
 
-// Where a word of a line starts and ends. It is empty if the line had no further word.
+// Where a word of a line starts and ends. It is empty if the line had no further word, and lies in the line if it is not.
 pub struct Word {
     pub from: usize,
     pub to: usize,
@@ -14,9 +14,8 @@ pub struct Word {
 
 // The first word from `at` on.
 pub fn next_word(line: &[u8], at: usize) -> Word
-    requires { ⌜ at ≤ length (now line) ⌝ }
     ensures { λ r. ⌜ r ≡ wordAt (now (line .entry)) at ⌝ }
-    ensures { λ r. ⌜ (r .from ≤ r .to) × (r .to ≤ length (now (line .entry))) ⌝ }
+    ensures { λ r. ⌜ Lies (length (now (line .entry))) at r ⌝ }
 {
     let from = blanks_end(line, at);
     Word {
@@ -40,9 +39,8 @@ pub fn part_of(line: &[u8], word: Word) -> &[u8] {
 
 // The first place from `at` on with no blank.
 fn blanks_end(line: &[u8], at: usize) -> usize
-    requires { ⌜ at ≤ length (now line) ⌝ }
     ensures { λ r. ⌜ r ≡ at + blanks (drop at (now (line .entry))) ⌝ }
-    ensures { λ r. ⌜ (at ≤ r) × (r ≤ length (now (line .entry))) ⌝ }
+    ensures { λ r. ⌜ (at ≤ r) × (r ≤ at + (length (now (line .entry)) - at)) ⌝ }
 {
     let mut i = at;
     while i < line.len() {
@@ -56,9 +54,8 @@ fn blanks_end(line: &[u8], at: usize) -> usize
 
 // The first place from `at` on with a blank.
 pub fn word_end(line: &[u8], at: usize) -> usize
-    requires { ⌜ at ≤ length (now line) ⌝ }
     ensures { λ r. ⌜ r ≡ at + letters (drop at (now (line .entry))) ⌝ }
-    ensures { λ r. ⌜ (at ≤ r) × (r ≤ length (now (line .entry))) ⌝ }
+    ensures { λ r. ⌜ (at ≤ r) × (r ≤ at + (length (now (line .entry)) - at)) ⌝ }
 {
     let mut i = at;
     while i < line.len() {

@@ -11,7 +11,7 @@ use Rattle.text.proofs.words.blanks_end.Statement.{statement}
 use Rattle.text.proofs.words.blanks_end.Tie as tie
 
 abbrev Inv-loop : tie.InvT-loop
-Inv-loop line at i₀ i = (at ≤ i) × (i ≤ length line) × (i + blanks (drop i line) ≡ at + blanks (drop at line))
+Inv-loop line at i₀ i = (at ≤ i) × (i ≤ at + (length line - at)) × (i + blanks (drop i line) ≡ at + blanks (drop at line))
 
 abbrev μ-loop : tie.MeasureT-loop
 μ-loop line at i₀ i = length line - i

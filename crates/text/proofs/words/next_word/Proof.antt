@@ -14,7 +14,7 @@ returns : tie.Need-returns
 returns c =
     let a = c .before .before .before .args in
     let b = c .before .blanks-end in
-    (word-at (a .line .now) (a .at) (b .result) (c .word-end .result) (b .ensures .0) (c .word-end .ensures .0), (c .word-end .ensures .1 .0, c .word-end .ensures .1 .1))
+    (word-at (a .line .now) (a .at) (b .result) (c .word-end .result) (b .ensures .0) (c .word-end .ensures .0), record { starts = b .ensures .1 .1; ordered = c .word-end .ensures .1 .0; ends = c .word-end .ensures .1 .1 })
 
 pub next-word-spec : {M : Type 1} → statement M
 next-word-spec = tie.close (tie.spec blanks-end-requires word-end-requires returns)

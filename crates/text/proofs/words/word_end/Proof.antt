@@ -10,7 +10,7 @@ use Rattle.text.proofs.words.word_end.Statement.{statement}
 use Rattle.text.proofs.words.word_end.Tie as tie
 
 abbrev Inv-loop : tie.InvT-loop
-Inv-loop line at i₀ i = (at ≤ i) × (i ≤ length line) × (i + letters (drop i line) ≡ at + letters (drop at line))
+Inv-loop line at i₀ i = (at ≤ i) × (i ≤ at + (length line - at)) × (i + letters (drop i line) ≡ at + letters (drop at line))
 
 abbrev μ-loop : tie.MeasureT-loop
 μ-loop line at i₀ i = length line - i

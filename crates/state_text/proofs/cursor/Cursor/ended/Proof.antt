@@ -1,0 +1,11 @@
+-- `Cursor::ended` meets its contract: nothing is left.
+use mathlib.Core.Path.{refl}
+use Rattle.state_text.specs.Left.{ended-less}
+use Rattle.state_text.proofs.cursor.Cursor.ended.Statement.{statement}
+use Rattle.state_text.proofs.cursor.Cursor.ended.Tie as tie
+
+returns : tie.Need-returns
+returns c = ended-less (c .args .self) _ (c .pre) refl
+
+pub ended-spec : {M : Type 1} → statement M
+ended-spec = tie.close (tie.spec returns)
