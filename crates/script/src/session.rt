@@ -1,71 +1,79 @@
-// A run of a script: its manager, the line that is being read, and the answers that are not yet written.
+// A run of a script: its manager, its machine, the line that is being read, and the answers that are not yet written.
 ghost use mathlib.Core.Path.{_≡_};
-ghost use Prim.Native.Nat.{_+_, _≤_};
+ghost use Prim.Native.Nat.{ℕ, _≤_};
 ghost use lib.ListN.{length};
-ghost use Rattle.script.specs.Session.{Kept};
-use crate::lone::Lone;
-use crate::lone::Said;
-use segments::Listed;
-use segments::Segment;
-use segments::VirtualMemoryManager;
-use text::Answer;
+ghost use Rattle.script.specs.Session.{Kept, Keeps};
+use crate::output::Output;
+use crate::show::put_said;
+use steps::asked::Asked;
+use steps::asked::LoneCall;
+use steps::asked::whose;
+use steps::lone::Lone;
+use steps::machine::Machine;
+use steps::machine::step;
 use text::Held;
 
 pub struct Session {
     pub lone: Lone,
+    pub machine: Machine,
     // What is held of the line that is being read, and how many lines came before it.
     pub held: Held,
     pub lines: u64,
-    // How many bytes of answers are not yet written.
-    pub at: usize,
-    // Whether to go on.
-    pub on: bool,
+    pub output: Output,
 }
 
 impl Session {
     pub fn new() -> Session
-        ensures { λ r. ⌜ (r .held .len ≡ 0) × (r .at ≡ 0) ⌝ }
+        ensures { λ r. ⌜ ((line out frames files rows : ℕ) → 4096 ≤ out → 24 ≤ rows → Kept r line out frames files rows) ⌝ }
     {
         Session {
             lone: Lone::new(),
+            machine: Machine::new(),
             held: Held::new(),
             lines: 0,
-            at: 0,
-            on: true,
+            output: Output { at: 0, on: true },
         }
     }
 
     // The run ends here.
     pub fn stopped(mut self) -> Session
-        ensures { λ r. ⌜ (r .held .len ≡ self .held .len) × (r .at ≡ self .at) ⌝ }
+        ensures { λ r. ⌜ Keeps self r ⌝ }
     {
-        self.on = false;
+        let output = self.output;
+        self.output = output.stopped();
         self
     }
 
     // Runs the lines that end in a chunk, holds the start of the next, and writes the answers.
-    pub fn fed(self, chunk: &[u8], line: &mut [u8], out: &mut [u8]) -> Session
-        requires { ⌜ Kept self (length (now line)) (length (now out)) ⌝ }
-        ensures { λ r. ⌜ Kept r (length (now (line .entry))) (length (now (out .entry))) ⌝ }
+    pub fn fed(
+        self,
+        chunk: &[u8],
+        line: &mut [u8],
+        out: &mut [u8],
+        words: &mut [u64],
+        frames: &mut [u8],
+        files: &mut [u8],
+        rows: &mut [u64],
+    ) -> Session
+        requires { ⌜ Kept self (length (now line)) (length (now out)) (length (now frames)) (length (now files)) (length (now rows)) ⌝ }
+        ensures { λ r. ⌜ Kept r (length (now (line .entry))) (length (now (out .entry))) (length (now (frames .entry))) (length (now (files .entry))) (length (now (rows .entry))) ⌝ }
     {
-        self.ran(chunk, line, out).flushed(out)
+        self.ran(chunk, line, out, words, frames, files, rows)
+            .flushed(&out[..])
     }
 
-    // Runs the last line, if it has no newline, and writes the answers.
-    pub fn finished(self, line: &[u8], out: &mut [u8]) -> Session
-        requires { ⌜ Kept self (length (now line)) (length (now out)) ⌝ }
-        ensures { λ r. ⌜ Kept r (length (now (line .entry))) (length (now (out .entry))) ⌝ }
-    {
-        let held = self.held;
-        if held.is_empty() {
-            return self.flushed(out).stopped();
-        }
-        self.line_ended(line, out).flushed(out).stopped()
-    }
-
-    fn ran(self, chunk: &[u8], line: &mut [u8], out: &mut [u8]) -> Session
-        requires { ⌜ Kept self (length (now line)) (length (now out)) ⌝ }
-        ensures { λ r. ⌜ Kept r (length (now (line .entry))) (length (now (out .entry))) ⌝ }
+    fn ran(
+        self,
+        chunk: &[u8],
+        line: &mut [u8],
+        out: &mut [u8],
+        words: &mut [u64],
+        frames: &mut [u8],
+        files: &mut [u8],
+        rows: &mut [u64],
+    ) -> Session
+        requires { ⌜ Kept self (length (now line)) (length (now out)) (length (now frames)) (length (now files)) (length (now rows)) ⌝ }
+        ensures { λ r. ⌜ Kept r (length (now (line .entry))) (length (now (out .entry))) (length (now (frames .entry))) (length (now (files .entry))) (length (now (rows .entry))) ⌝ }
     {
         let mut session = self;
         let mut at = 0;
@@ -75,7 +83,7 @@ impl Session {
             if end == chunk.len() {
                 return session;
             }
-            session = session.line_ended(&line[..], out);
+            session = session.line_ended(&line[..], out, words, frames, files, rows);
             at = end + 1;
         }
         session
@@ -83,7 +91,7 @@ impl Session {
 
     fn gathered(mut self, line: &mut [u8], part: &[u8]) -> Session
         requires { ⌜ self .held .len ≤ length (now line) ⌝ }
-        ensures { λ r. ⌜ (r .held .len ≤ length (now (line .entry))) × (r .at ≡ self .at) ⌝ }
+        ensures { λ r. ⌜ ((out frames files rows : ℕ) → Kept self (length (now (line .entry))) out frames files rows → Kept r (length (now (line .entry))) out frames files rows) ⌝ }
     {
         let held = text::gather(line, self.held, part);
         self.held = held;
@@ -91,108 +99,81 @@ impl Session {
     }
 
     // Runs the line that is held.
-    fn line_ended(self, line: &[u8], out: &mut [u8]) -> Session
-        requires { ⌜ Kept self (length (now line)) (length (now out)) ⌝ }
-        ensures { λ r. ⌜ Kept r (length (now (line .entry))) (length (now (out .entry))) ⌝ }
+    fn line_ended(
+        mut self,
+        line: &[u8],
+        out: &mut [u8],
+        words: &mut [u64],
+        frames: &mut [u8],
+        files: &mut [u8],
+        rows: &mut [u64],
+    ) -> Session
+        requires { ⌜ Kept self (length (now line)) (length (now out)) (length (now frames)) (length (now files)) (length (now rows)) ⌝ }
+        ensures { λ r. ⌜ Kept r (length (now (line .entry))) (length (now (out .entry))) (length (now (frames .entry))) (length (now (files .entry))) (length (now (rows .entry))) ⌝ }
     {
-        let roomy = self.with_room(out);
-        let lone = roomy.lone;
-        let step = lone.step(text::held_call(line, roomy.held));
-        let said = step.said;
-        let after = step.lone;
-        let lines = std::num::wrapping_add_u64(roomy.lines, 1);
-        let at = put_said(out, roomy.at, line, lines, said, after.manager);
-        Session {
-            lone: after,
-            held: Held::new(),
-            lines,
-            at,
-            on: roomy.on,
+        let asked = whose(call_text::held_call(line, self.held));
+        self.held = Held::new();
+        self.lines = std::num::wrapping_add_u64(self.lines, 1);
+        if let Asked::Lone(call) = asked {
+            return self.managed(call, line, out);
         }
-    }
-
-    // Writes the answers if the longest answer does not fit behind them.
-    fn with_room(self, out: &[u8]) -> Session
-        requires { ⌜ self .at ≤ length (now out) ⌝ }
-        requires { ⌜ 4096 ≤ length (now out) ⌝ }
-        ensures { λ r. ⌜ (r .held .len ≡ self .held .len) × (r .at + 4096 ≤ length (now (out .entry))) ⌝ }
-    {
-        if out.len() - self.at < 4096 {
-            self.flushed(out)
-        } else {
-            self
-        }
-    }
-
-    // Writes the answers. A write that fails ends the run.
-    fn flushed(mut self, out: &[u8]) -> Session
-        requires { ⌜ self .at ≤ length (now out) ⌝ }
-        ensures { λ r. ⌜ (r .held .len ≡ self .held .len) × (r .at ≡ 0) ⌝ }
-    {
-        let at = self.at;
-        self.at = 0;
-        if !self.on {
-            return self;
-        }
-        if !io::write_all(libc::STDOUT_FILENO, &out[..at]) {
-            io::write_all(
-                libc::STDERR_FILENO,
-                b"script: standard output cannot be written\n",
-            );
-            self.on = false;
-        }
+        let machine = self.machine;
+        let stepped = step(machine, asked, line, words, frames, files, rows);
+        let said = stepped.said;
+        let machine = stepped.machine;
+        self.machine = machine;
+        let output = self.output;
+        let lone = self.lone;
+        let n = machine.frames;
+        let b = machine.bytes;
+        let output = put_said(
+            output.with_room(&out[..]),
+            out,
+            line,
+            self.lines,
+            said,
+            lone.manager,
+            &words[..],
+            &frames[..n],
+            &files[..b],
+        );
+        self.output = output;
         self
     }
-}
 
-fn put_said(
-    out: &mut [u8],
-    at: usize,
-    line: &[u8],
-    number: u64,
-    said: Said,
-    manager: VirtualMemoryManager,
-) -> usize
-    requires { ⌜ at + 4096 ≤ length (now out) ⌝ }
-    ensures { λ r. ⌜ r ≤ at + 4096 ⌝ }
-{
-    match said {
-        Said::Nothing => at,
-        Said::Fault(fault) => text::put_fault(out, at, line, number, fault),
-        Said::Answer(answer) => text::put_answer(out, at, answer),
-        Said::List => put_list(out, at, manager),
+    // Runs a call of the lone manager.
+    fn managed(mut self, call: LoneCall, line: &[u8], out: &mut [u8]) -> Session
+        requires { ⌜ self .output .at ≤ length (now out) ⌝ }
+        requires { ⌜ 4096 ≤ length (now out) ⌝ }
+        ensures { λ r. ⌜ ((line frames files rows : ℕ) → Kept self line (length (now (out .entry))) frames files rows → Kept r line (length (now (out .entry))) frames files rows) ⌝ }
+    {
+        let lone = self.lone;
+        let step = lone.step(call);
+        let said = step.said;
+        let after = step.lone;
+        let output = self.output;
+        let output = put_said(
+            output.with_room(&out[..]),
+            out,
+            line,
+            self.lines,
+            said,
+            after.manager,
+            &[],
+            &[],
+            &[],
+        );
+        self.lone = after;
+        self.output = output;
+        self
     }
-}
 
-// Puts the answer of `segments`.
-fn put_list(out: &mut [u8], at: usize, manager: VirtualMemoryManager) -> usize
-    requires { ⌜ at + 4096 ≤ length (now out) ⌝ }
-    ensures { λ r. ⌜ r ≤ at + 4096 ⌝ }
-{
-    let list = manager.segments();
-    let answer = list.answer;
-    let rows = list.segments;
-    match answer {
-        Listed::Refused(why) => text::put_answer(out, at, Answer::Refused(why)),
-        Listed::Held(count) => {
-            let next = text::put_count(out, at, count as u64);
-            let next = put_rows(out, next, rows, count);
-            text::put(out, next, b"\n")
-        }
+    fn flushed(mut self, out: &[u8]) -> Session
+        requires { ⌜ self .output .at ≤ length (now out) ⌝ }
+        ensures { λ r. ⌜ Keeps self r ⌝ }
+    {
+        let output = self.output;
+        self.output = output.flushed(out);
+        self
     }
-}
-
-fn put_rows(out: &mut [u8], at: usize, rows: [Segment; 64], count: usize) -> usize
-    requires { ⌜ count ≤ 64 ⌝ }
-    requires { ⌜ at + 2432 ≤ length (now out) ⌝ }
-    ensures { λ r. ⌜ r ≤ at + 2432 ⌝ }
-{
-    let mut next = at;
-    let mut i = 0;
-    while i < count {
-        let row = rows[i];
-        next = text::put_pair(out, next, row.start.0, row.len);
-        i += 1;
-    }
-    next
 }

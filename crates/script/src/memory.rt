@@ -1,0 +1,31 @@
+// The memory that the machine is lent.
+ghost use mathlib.Core.Path.{_≡_};
+ghost use lib.ListN.{length};
+
+// Its tables.
+pub fn words() -> [u64; 11844]
+    ensures { λ r. ⌜ 11844 ≡ length r ⌝ }
+{
+    [0; 11844]
+}
+
+// 256 frames.
+pub fn frames() -> [u8; 1048576]
+    ensures { λ r. ⌜ 1048576 ≡ length r ⌝ }
+{
+    [0; 1048576]
+}
+
+// The bytes of the files.
+pub fn files() -> [u8; 262144]
+    ensures { λ r. ⌜ 262144 ≡ length r ⌝ }
+{
+    [0; 262144]
+}
+
+// Three words for each of 8 files.
+pub fn rows() -> [u64; 24]
+    ensures { λ r. ⌜ 24 ≡ length r ⌝ }
+{
+    [0; 24]
+}
