@@ -1,4 +1,4 @@
--- Lines and their calls, computed: a row for each call, each kind of line that is skipped, and each fault.
+-- Lines and their calls, computed: a row for each call, each kind of line that is skipped, and each fault that a line's words can have.
 use mathlib.Core.Path.{_≡_, refl}
 use mathlib.Core.Bool.{true, false}
 use mathlib.Core.List.{List, [], _∷_, map}

@@ -1,10 +1,7 @@
-// Loads with one soundness test for all of them, for C and Rust programs on a machine that the caller lends: the benchmark links it, to
-// time a load's core without the test.
+// Loads with one soundness test for all of them, for C and Rust programs on a machine that the caller lends: the oracle's example `checked`
+// links it, to time a load's core without the test.
 ghost use mathlib.Core.Path.{_≡_};
-ghost use lib.ListN.{length};
-ghost use Rattle.model.specs.Layout.{wordCount};
-ghost use Rattle.tables.specs.Lent.{SoundFrames};
-ghost use Rattle.cores_c.specs.Loads.{byteOr0, sumOf, byteAt, loadsOn};
+ghost use Rattle.cores_c.specs.Loads.{byteOr0, loadsOn};
 use address::VirtAddr;
 use loads::load_core;
 use model::Loaded;

@@ -1,4 +1,4 @@
--- Machines with one word or row wrong: the soundness test refuses each. One state for every clause of R1 to R6.
+-- Machines with one word or row wrong: the soundness test refuses each. Every rule of R1 to R6 is broken by one at least.
 use mathlib.Core.Path.{_≡_, refl}
 use mathlib.Core.Bool.{Bool, true, false, not}
 use mathlib.Core.List.{List, [], _∷_}

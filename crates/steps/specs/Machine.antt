@@ -33,6 +33,8 @@ use Rattle.steps.specs.declared.said.Said.{Said}
 use Rattle.steps.specs.declared.said.Said.the-variants as said
 use Rattle.steps.specs.declared.machine.Machine.{Machine}
 use Rattle.steps.specs.declared.machine.Stepped.{Stepped}
+use Rattle.steps.specs.declared.asked.Asked.{Asked}
+use Rattle.steps.specs.declared.asked.Asked.the-variants as asked
 use Rattle.steps.specs.declared.asked.MachineCall.{MachineCall}
 use Rattle.steps.specs.declared.asked.MachineCall.the-variants as machine
 
@@ -128,3 +130,32 @@ pub record Answers (m : Machine) (call : MachineCall) (words frames files words'
 -- what only a machine that is there has
 unfoldable pub wantedAs : Machine → Said → Said
 wantedAs m s = cond (m .started) s (said.Fault fault.NoMachine)
+
+-- ---- a line
+
+-- the answer of a call, and what it leaves
+pub record Answered (m : Machine) (call : MachineCall) (words frames files words' frames' : List ℕ) (r : Stepped) : Type 0 where
+  pub answer : Said
+  pub is : r ≡ says m answer
+  pub answers : Answers m call words frames files words' frames' answer
+
+-- a file of some bytes
+pub record Filed (m : Machine) (files : List ℕ) (r : Stepped) : Type 0 where
+  pub bytes : ℕ
+  pub is : r ≡ filedAs m bytes (length files)
+
+-- the memory before and after a line
+abbrev pub Same : (words frames files rows words' frames' files' rows' : List ℕ) → Type 0
+Same words frames files rows words' frames' files' rows' = (words' ≡ words) × (frames' ≡ frames) × (files' ≡ files) × (rows' ≡ rows)
+
+-- what a line says and leaves: what is no call of the machine's leaves all of it as it was
+unfoldable pub Ran : Machine → Asked → (words frames files rows words' frames' files' rows' : List ℕ) → Stepped → Type 0
+Ran m asked.Nothing w f b k w' f' b' k' r = (r ≡ says m said.Nothing) × Same w f b k w' f' b' k'
+Ran m (asked.Bad why) w f b k w' f' b' k' r = (r ≡ faulty m why) × Same w f b k w' f' b' k'
+Ran m (asked.NotYet word) w f b k w' f' b' k' r = (r ≡ says m (said.NotYet word)) × Same w f b k w' f' b' k'
+Ran m (asked.Lone call) w f b k w' f' b' k' r = (r ≡ says m said.Nothing) × Same w f b k w' f' b' k'
+Ran m (asked.File readable digits) w f b k w' f' b' k' r = Filed m b r × ((w' ≡ w) × (f' ≡ f))
+Ran m (asked.Start count) w f b k w' f' b' k' r = Began m count w f b k w' r × ((f' ≡ f) × (b' ≡ b) × (k' ≡ k))
+Ran m (asked.Machine call) w f b k w' f' b' k' r = Answered m call w f b w' f' r × ((b' ≡ b) × (k' ≡ k))
+Ran m (asked.Regions process) w f b k w' f' b' k' r = (r ≡ says m (wantedAs m (said.Starts process))) × Same w f b k w' f' b' k'
+Ran m asked.State w f b k w' f' b' k' r = (r ≡ says m (wantedAs m said.State)) × Same w f b k w' f' b' k'

@@ -26,12 +26,13 @@ use Rattle.calls.specs.Answered.{answerOn, Leaves}
 use Rattle.call_text.specs.declared.call.Fault.the-variants as fault
 use Rattle.answer_text.specs.declared.answer.Answer.{Answer}
 use Rattle.answer_text.specs.declared.answer.Answer.the-variants.{Refused, Count}
+use Rattle.steps.specs.declared.asked.Asked.{Asked}
 use Rattle.steps.specs.declared.asked.MachineCall.{MachineCall}
 use Rattle.steps.specs.declared.said.Said.{Said}
 use Rattle.steps.specs.declared.said.Said.the-variants as said
 use Rattle.steps.specs.declared.machine.Machine.{Machine}
 use Rattle.steps.specs.declared.machine.Stepped.{Stepped}
-use Rattle.steps.specs.Machine.{placedAs, written, answerOf, Lends, says, faulty, filedAs, startedAs, Began, Answers, wantedAs}
+use Rattle.steps.specs.Machine.{placedAs, written, answerOf, Lends, says, faulty, filedAs, startedAs, Began, Answers, wantedAs, Ran}
 
 -- ---- a call of crate `calls`, its answer written
 
@@ -189,3 +190,13 @@ began-lends m count w f b r w' s rows g l = subst (λ (x : Stepped). Lends (x .m
     go done.Yes e =
         let fits : count ≤ length f / 4096 = small (ltb (length f / 4096) count) refl e in
         record { in-frames = omega arith; few = l .few; in-files = l .in-files; listed = l .listed }
+
+-- ---- a line, by its arm
+
+module _ (m : Machine) (a x : Asked) (w f b k w' f' b' k' : List ℕ) (r : Stepped) where
+  pub ran-as : a ≡ x → Ran m x w f b k w' f' b' k' r → Ran m a w f b k w' f' b' k' r
+  ran-as e d = subst (λ (y : Asked). Ran m y w f b k w' f' b' k' r) (sym e) d
+
+-- what only a machine that is there has
+pub says-wanted : (m : Machine) (s t : Said) (r : Stepped) → t ≡ wantedAs m s → r ≡ says m t → r ≡ says m (wantedAs m s)
+says-wanted m s t r e q = q ∙ ap (λ (y : Said). says m y) e

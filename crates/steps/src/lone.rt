@@ -1,6 +1,6 @@
 // The script's manager: what a call answers, and the manager after it.
 ghost use mathlib.Core.Path.{_≡_};
-ghost use mathlib.Core.Bool.{true};
+ghost use mathlib.Core.Bool.{true, false};
 ghost use Rattle.steps.specs.declared.said.Said.the-variants as said;
 ghost use Rattle.steps.specs.Step.{says, newStep, reserveStep, markStep, releaseStep, splitStep, listStep, stepOf};
 use crate::asked::LoneCall;
@@ -28,7 +28,9 @@ pub struct Step {
 
 impl Lone {
     // No manager yet.
-    pub fn new() -> Lone {
+    pub fn new() -> Lone
+        ensures { λ r. ⌜ r .made ≡ false ⌝ }
+    {
         let none = VirtualMemoryManager::new(VirtAddr(0), 0);
         let manager = none.manager;
         Lone {

@@ -1,8 +1,9 @@
 // The script's machine: which part of the memory it is lent, and what a line leaves of it.
 ghost use mathlib.Core.Path.{_≡_};
+ghost use mathlib.Core.Bool.{false};
 ghost use Prim.Native.Nat.{_+_, _*_, _/_, _≤_, _<_};
 ghost use lib.ListN.{length};
-ghost use Rattle.steps.specs.Machine.{Lends, says, filedAs, Began, Answers, wantedAs};
+ghost use Rattle.steps.specs.Machine.{Lends, says, filedAs, Began, Answers, wantedAs, Ran};
 use crate::asked::Asked;
 use crate::asked::MachineCall;
 use crate::lent::run;
@@ -28,7 +29,7 @@ pub struct Stepped {
 impl Machine {
     // No machine yet, and no files.
     pub fn new() -> Machine
-        ensures { λ r. ⌜ (r .frames ≡ 0) × (r .files ≡ 0) × (r .bytes ≡ 0) ⌝ }
+        ensures { λ r. ⌜ (r .started ≡ false) × (r .frames ≡ 0) × (r .files ≡ 0) × (r .bytes ≡ 0) ⌝ }
     {
         Machine {
             started: false,
@@ -152,6 +153,7 @@ pub fn step(
     rows: &mut [u64],
 ) -> Stepped
     requires { ⌜ Lends machine (length (now frames)) (length (now files)) (length (now rows)) ⌝ }
+    ensures { λ r. ⌜ Ran machine asked (now (words .entry)) (now (frames .entry)) (now (files .entry)) (now (rows .entry)) (now (words .exit)) (now (frames .exit)) (now (files .exit)) (now (rows .exit)) r ⌝ }
     ensures { λ r. ⌜ Lends (r .machine) (length (now (frames .entry))) (length (now (files .entry))) (length (now (rows .entry))) ⌝ }
 {
     match asked {

@@ -21,14 +21,6 @@ impl Held {
             long: false,
         }
     }
-
-    // Whether not a byte of the line was read.
-    pub fn is_empty(self) -> bool {
-        if self.long {
-            return false;
-        }
-        self.len == 0
-    }
 }
 
 // The place of the first newline from `at` on, or the chunk's length.

@@ -1,6 +1,8 @@
 -- `machine::step` meets its contract: every way keeps the machine in its memory.
+use mathlib.Core.Path.{refl}
 use borrow.Author.Needs.{needs}
-use Rattle.steps.specs.MachineLaws.{says-lends, file-lends, began-lends}
+use Rattle.steps.specs.Machine.{Ran}
+use Rattle.steps.specs.MachineLaws.{says-lends, file-lends, began-lends, ran-as, says-wanted}
 use Rattle.steps.proofs.machine.step.Statement.{statement}
 use Rattle.steps.proofs.machine.step.Tie as tie
 
@@ -71,16 +73,20 @@ says-requires-7 : tie.Need-says-requires-7
 says-requires-7 c κs = search needs
 
 returns : tie.Need-returns
-returns c = says-lends _ _ (c .says .result) _ _ _ (c .says .ensures) (c .before .before .before .before .before .before .before .before .pre)
+unfolding Ran
+returns c = (ran-as _ _ _ _ _ _ _ _ _ _ _ _ (c .before .enum-told .given .1) (c .says .ensures, (refl, refl, refl, refl)), says-lends _ _ (c .says .result) _ _ _ (c .says .ensures) (c .before .before .before .before .before .before .before .before .pre))
 
 returns-2 : tie.Need-returns-2
-returns-2 c = says-lends _ _ (c .says2 .result) _ _ _ (c .says2 .ensures) (c .before .before .before .before .before .before .before .before .before .pre)
+unfolding Ran
+returns-2 c = (ran-as _ _ _ _ _ _ _ _ _ _ _ _ (c .before .before .asked .given .1) (c .says2 .ensures, (refl, refl, refl, refl)), says-lends _ _ (c .says2 .result) _ _ _ (c .says2 .ensures) (c .before .before .before .before .before .before .before .before .before .pre))
 
 returns-3 : tie.Need-returns-3
-returns-3 c = says-lends _ _ (c .says3 .result) _ _ _ (c .says3 .ensures) (c .before .before .before .before .before .before .before .before .before .pre)
+unfolding Ran
+returns-3 c = (ran-as _ _ _ _ _ _ _ _ _ _ _ _ (c .before .before .asked2 .given .1) (c .says3 .ensures, (refl, refl, refl, refl)), says-lends _ _ (c .says3 .result) _ _ _ (c .says3 .ensures) (c .before .before .before .before .before .before .before .before .before .pre))
 
 returns-4 : tie.Need-returns-4
-returns-4 c = says-lends _ _ (c .says4 .result) _ _ _ (c .says4 .ensures) (c .before .before .before .before .before .before .before .before .pre)
+unfolding Ran
+returns-4 c = (ran-as _ _ _ _ _ _ _ _ _ _ _ _ (c .before .enum-told2 .given .1) (c .says4 .ensures, (refl, refl, refl, refl)), says-lends _ _ (c .says4 .result) _ _ _ (c .says4 .ensures) (c .before .before .before .before .before .before .before .before .pre))
 
 same-length : tie.Need-same-length
 same-length c = search needs
@@ -89,7 +95,8 @@ same-length-2 : tie.Need-same-length-2
 same-length-2 c = search needs
 
 returns-5 : tie.Need-returns-5
-returns-5 c = file-lends _ _ _ _ _ _ (c .before .before .before .before .file .ensures) (c .before .before .before .before .before .before .before .before .before .before .before .before .before .before .before .before .pre)
+unfolding Ran
+returns-5 c = (ran-as _ _ _ _ _ _ _ _ _ _ _ _ (c .before .before .before .before .before .before .before .before .before .asked3 .given .1) (record { bytes = _; is = c .before .before .before .before .file .ensures }, (refl, refl)), file-lends _ _ _ _ _ _ (c .before .before .before .before .file .ensures) (c .before .before .before .before .before .before .before .before .before .before .before .before .before .before .before .before .pre))
 
 same-length-3 : tie.Need-same-length-3
 same-length-3 c = search needs
@@ -104,7 +111,8 @@ same-length-6 : tie.Need-same-length-6
 same-length-6 c = search needs
 
 returns-6 : tie.Need-returns-6
-returns-6 c = began-lends _ _ _ _ _ _ _ _ _ (c .before .before .start .ensures) (c .before .before .before .before .before .before .before .before .before .before .before .before .before .before .before .pre)
+unfolding Ran
+returns-6 c = (ran-as _ _ _ _ _ _ _ _ _ _ _ _ (c .before .before .before .before .before .before .before .before .asked4 .given .1) (c .before .before .start .ensures, (refl, refl, refl)), began-lends _ _ _ _ _ _ _ _ _ (c .before .before .start .ensures) (c .before .before .before .before .before .before .before .before .before .before .before .before .before .before .before .pre))
 
 same-length-7 : tie.Need-same-length-7
 same-length-7 c = search needs
@@ -116,13 +124,16 @@ same-length-9 : tie.Need-same-length-9
 same-length-9 c = search needs
 
 returns-7 : tie.Need-returns-7
-returns-7 c = says-lends _ _ (c .says5 .result) _ _ _ (c .says5 .ensures) (c .before .before .before .before .before .before .before .before .before .before .before .before .before .before .before .before .before .pre)
+unfolding Ran
+returns-7 c = (ran-as _ _ _ _ _ _ _ _ _ _ _ _ (c .before .before .before .before .before .before .before .before .before .before .asked5 .given .1) (record { answer = _; is = c .says5 .ensures; answers = c .before .before .before .before .before .answer .ensures }, (refl, refl)), says-lends _ _ (c .says5 .result) _ _ _ (c .says5 .ensures) (c .before .before .before .before .before .before .before .before .before .before .before .before .before .before .before .before .before .pre))
 
 returns-8 : tie.Need-returns-8
-returns-8 c = says-lends _ _ (c .says6 .result) _ _ _ (c .says6 .ensures) (c .before .before .before .before .before .before .before .before .before .before .pre)
+unfolding Ran
+returns-8 c = (ran-as _ _ _ _ _ _ _ _ _ _ _ _ (c .before .before .before .asked6 .given .1) (says-wanted _ _ _ _ (c .before .wanted .ensures) (c .says6 .ensures), (refl, refl, refl, refl)), says-lends _ _ (c .says6 .result) _ _ _ (c .says6 .ensures) (c .before .before .before .before .before .before .before .before .before .before .pre))
 
 returns-9 : tie.Need-returns-9
-returns-9 c = says-lends _ _ (c .says7 .result) _ _ _ (c .says7 .ensures) (c .before .before .before .before .before .before .before .before .before .pre)
+unfolding Ran
+returns-9 c = (ran-as _ _ _ _ _ _ _ _ _ _ _ _ (c .before .before .enum-told3 .given .1) (says-wanted _ _ _ _ (c .before .wanted2 .ensures) (c .says7 .ensures), (refl, refl, refl, refl)), says-lends _ _ (c .says7 .result) _ _ _ (c .says7 .ensures) (c .before .before .before .before .before .before .before .before .before .pre))
 
 pub step-spec : {M : Type 1} → statement M
 step-spec =

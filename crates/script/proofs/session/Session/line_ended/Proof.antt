@@ -42,13 +42,13 @@ slice-reshare-prefix-put-said : tie.Need-slice-reshare-prefix-put-said
 slice-reshare-prefix-put-said c = search needs
 
 slice-aggregate-put-said : tie.Need-slice-aggregate-put-said
-slice-aggregate-put-said c = sym (length-take-le _ _ (let l = c .before .before .before .before .before .before .before .before .before .before .before .before .before .before .before .before .step .ensures .in-frames in omega arith))
+slice-aggregate-put-said c = sym (length-take-le _ _ (let l = c .before .before .before .before .before .before .before .before .before .before .before .before .before .before .before .before .step .ensures .1 .in-frames in omega arith))
 
 slice-reshare-prefix-put-said-2 : tie.Need-slice-reshare-prefix-put-said-2
 slice-reshare-prefix-put-said-2 c = search needs
 
 slice-aggregate-put-said-2 : tie.Need-slice-aggregate-put-said-2
-slice-aggregate-put-said-2 c = sym (length-take-le _ _ (let l = c .before .before .before .before .before .before .before .before .before .before .before .before .before .before .before .before .before .step .ensures .in-files in omega arith))
+slice-aggregate-put-said-2 c = sym (length-take-le _ _ (let l = c .before .before .before .before .before .before .before .before .before .before .before .before .before .before .before .before .before .step .ensures .1 .in-files in omega arith))
 
 put-said-requires : tie.Need-put-said-requires
 put-said-requires c κs = search needs
@@ -71,7 +71,7 @@ same-length-6 c = search needs
 returns-2 : tie.Need-returns-2
 returns-2 c =
     let k = c .before .before .before .before .before .before .before .before .before .before .before .before .before .before .before .before .before .before .before .before .before .before .before .before .before .before .before .before .before .before .before .before .before .before .before .before .before .pre in
-    record { held = let none = (c .before .before .before .before .before .before .before .before .before .before .before .before .before .before .before .before .before .before .before .before .before .before .before .before .before .before .before .before .new .ensures) in omega arith; at = c .before .before .put-said .ensures; room = k .room; lends = c .before .before .before .before .before .before .before .before .before .before .before .before .before .before .before .before .before .before .before .before .step .ensures }
+    record { held = let none = (c .before .before .before .before .before .before .before .before .before .before .before .before .before .before .before .before .before .before .before .before .before .before .before .before .before .before .before .before .new .ensures) in omega arith; at = c .before .before .put-said .ensures; room = k .room; lends = c .before .before .before .before .before .before .before .before .before .before .before .before .before .before .before .before .before .before .before .before .step .ensures .1 }
 
 pub line-ended-spec : {M : Type 1} → statement M
 line-ended-spec =
