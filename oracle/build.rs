@@ -23,10 +23,10 @@ const MACHINE: Library = Library {
     file: "libmachine_c.a",
     cfg: "proved_machine",
 };
-const CORES: Library = Library {
-    variable: "JHIL_CORES_LIB",
-    file: "libcores_c.a",
-    cfg: "proved_cores",
+const BENCH: Library = Library {
+    variable: "JHIL_BENCH_LIB",
+    file: "libbench_c.a",
+    cfg: "proved_bench",
 };
 /// A function that the machine's library has once it has all calls, and what is then set.
 const LAST_CALL: &str = "machine_regions";
@@ -37,7 +37,7 @@ fn main() {
     fs::create_dir_all(FOLDER).expect("the target folder is writable");
     println!("cargo::rerun-if-changed={FOLDER}");
     link(&SEGMENTS);
-    link(&CORES);
+    link(&BENCH);
     if let Some(machine) = link(&MACHINE)
         && names(&machine, LAST_CALL)
     {

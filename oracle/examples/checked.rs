@@ -172,7 +172,7 @@ mod timed {
     }
 
     /// A load's core without the test: a page's loads with one test for all, less the test.
-    #[cfg(proved_cores)]
+    #[cfg(proved_bench)]
     fn bare_load(lent: &Lent, p: u64, addr: u64, refused: bool) -> Option<f64> {
         let loads = |times: u64| {
             least(|| {
@@ -184,7 +184,7 @@ mod timed {
     }
 
     /// The library of cores is not linked.
-    #[cfg(not(proved_cores))]
+    #[cfg(not(proved_bench))]
     fn bare_load(_: &Lent, _: u64, _: u64, _: bool) -> Option<f64> {
         None
     }

@@ -3,7 +3,6 @@ use mathlib.Core.Path.{_≡_}
 use mathlib.Core.Bool.{Bool, _||_, cond}
 use Prim.Native.Nat.{ℕ, _-_, _^_, _≤_, _<_}
 use lib.Dec.{ltb, leb}
-use Rattle.address.specs.declared.VirtAddr.{VirtAddr}
 use Rattle.address.specs.declared.CheckedAddr.{CheckedAddr}
 use Rattle.address.specs.declared.CheckedAddr.the-variants.{Good, NotCanonical}
 use Rattle.address.specs.Bits.{bit}

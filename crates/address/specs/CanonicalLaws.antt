@@ -2,16 +2,16 @@
 use mathlib.Core.Path.{_≡_, refl, ap, sym, subst, _∙_}
 use mathlib.Core.Logic.{_⊎_, inl, inr, ⊎-elim}
 use mathlib.Core.Bool.{Bool, true, false, _||_}
-use Prim.Native.Nat.{ℕ, zero, suc, _+_, _-_, _/_, _^_, _≤_, _<_}
+use Prim.Native.Nat.{ℕ, _+_, _-_, _/_, _^_, _≤_, _<_}
 use native.Mathlib.Omega.{arith}
 use lib.Dec.{ltb, leb}
 use borrow.Author.Tests.{ltb-true, leb-true, lt-ltb, le-leb, le-ltb}
-use Rattle.address.specs.declared.CheckedAddr.{CheckedAddr}
 use Rattle.address.specs.declared.CheckedAddr.the-variants.{Good, NotCanonical}
 use Rattle.address.specs.Bits.{bit}
 use Rattle.address.specs.BitsLaws.{bit-from, bit-zero, bit-ones, bits-same, bit-cases}
 use Rattle.address.specs.Canonical.{Canonical, canonical, checkedAddr}
-use Rattle.address.specs.Tells.{Tells, tells-of}
+use Rattle.laws.specs.Tells.{Tells}
+use Rattle.laws.specs.TellsLaws.{tells-of}
 
 -- of two tests, one
 pub either : (a b : Bool) → (a || b) ≡ true → (a ≡ true) ⊎ (b ≡ true)

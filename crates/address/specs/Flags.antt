@@ -1,10 +1,8 @@
 -- The flag bits of a page table entry.
 use mathlib.Core.Path.{_≡_}
-use mathlib.Core.Logic.{_⊎_}
 use mathlib.Core.Bool.{Bool, _&&_, cond}
 use Prim.Native.Nat.{ℕ, _*_, _-_, _/_, _%_, _^_}
 use lib.Dec.{eqb}
-use Rattle.address.specs.declared.flags.PageTableFlags.{PageTableFlags}
 use Rattle.address.specs.declared.flags.CheckedFlags.{CheckedFlags}
 use Rattle.address.specs.declared.flags.CheckedFlags.the-variants.{Good, Bad}
 use Rattle.address.specs.Bits.{bit, has}
@@ -30,11 +28,6 @@ pub record Contains (a b : ℕ) : Type 0 where
 -- each bit of r is a's where it is not set in b, and else 0
 pub record Without (a b r : ℕ) : Type 0 where
   pub each : (i : ℕ) → bit r i ≡ bit a i * (1 - bit b i)
-
--- document 01, BadFlags: "PRESENT missing, or a bit outside the four"
-pub record GoodFlags (n : ℕ) : Type 0 where
-  pub isPresent : bit n present ≡ 1
-  pub ofFour : (i : ℕ) → bit n i ≡ 1 → (i ≡ present) ⊎ ((i ≡ writable) ⊎ ((i ≡ userAccessible) ⊎ (i ≡ noExecute)))
 
 -- the same as a test: bit 0 is set, and bits 3 to 62 make 0 (FlagsLaws: good-flags-tells)
 unfoldable pub goodFlags : ℕ → Bool

@@ -1,18 +1,23 @@
--- The flag functions, bit by bit.
+-- Laws of `Flags`: the flag bits of a page table entry.
 use mathlib.Core.Path.{_≡_, refl, ap, sym, subst, _∙_}
-use mathlib.Core.Logic.{_⊎_, inl, inr, ⊎-elim}
-use mathlib.Core.Bool.{Bool, true, false, _&&_, cond}
-use Prim.Native.Nat.{ℕ, zero, suc, _+_, _-_, _*_, _/_, _%_, _^_, _≤_, _<_, min}
-use native.Mathlib.Omega.{arith}
-use lib.Bits.{bitAnd, bitXor, and-le-r, differ}
+use mathlib.Core.Logic.{_⊎_, inl, inr}
+use mathlib.Core.Bool.{Bool, _&&_, true, false}
+use Prim.Native.Nat.{ℕ, _*_, _-_, _/_, _%_, _^_, zero, suc, _+_, _≤_, _<_, min}
 use lib.Dec.{eqb}
-use borrow.Author.Tests.{eqb-true, eq-eqb}
-use Rattle.address.specs.declared.flags.CheckedFlags.{CheckedFlags}
 use Rattle.address.specs.declared.flags.CheckedFlags.the-variants.{Good, Bad}
 use Rattle.address.specs.Bits.{bit, has}
+use Rattle.address.specs.Flags.{present, writable, userAccessible, noExecute, Contains, Without, goodFlags, checkedFlags, readOnly}
+use native.Mathlib.Omega.{arith}
+use lib.Bits.{bitAnd, bitXor, and-le-r, differ}
+use borrow.Author.Tests.{eqb-true, eq-eqb}
 use Rattle.address.specs.BitsLaws.{bit-from, bit-zero, bit-pow, bit-low, bit-and, bit-xor, bits-same, bit-cases, bit-small}
-use Rattle.address.specs.Flags.{Contains, Without, GoodFlags, goodFlags, checkedFlags, readOnly}
-use Rattle.address.specs.Tells.{Tells, tells-of, tells-both, tells-same, told}
+use Rattle.laws.specs.Tells.{Tells}
+use Rattle.laws.specs.TellsLaws.{tells-of, tells-both, tells-same}
+
+-- document 01, BadFlags: "PRESENT missing, or a bit outside the four"
+pub record GoodFlags (n : ℕ) : Type 0 where
+  pub isPresent : bit n present ≡ 1
+  pub ofFour : (i : ℕ) → bit n i ≡ 1 → (i ≡ present) ⊎ ((i ≡ writable) ⊎ ((i ≡ userAccessible) ⊎ (i ≡ noExecute)))
 
 -- the code's `a & b == b` tells that a contains b
 pub contains-tells : (a b : ℕ) → b < 2 ^ 64 → Tells (eqb (bitAnd a b) b) (Contains a b)

@@ -1,9 +1,9 @@
 -- The rooms of the definitions and laws: docs/ARCHITECTURE.md says which to read.
-pub mod Tells
 pub mod Bits
 pub mod Canonical
-pub mod Paging
+pub mod Pages
+pub mod PagesLaws
 pub mod Flags
+pub mod FlagsLaws
 pub mod BitsLaws
 pub mod CanonicalLaws
-pub mod FlagsLaws

@@ -2,7 +2,7 @@
 ghost use mathlib.Core.Path.{_≡_};
 ghost use Rattle.address.specs.Bits.{has};
 ghost use Rattle.address.specs.Flags.{Contains, Without, checkedFlags, readOnly, present, writable, userAccessible, noExecute};
-ghost use Rattle.address.specs.Tells.{Tells};
+ghost use Rattle.laws.specs.Tells.{Tells};
 
 // Flag bits of a page table entry.
 pub struct PageTableFlags(pub u64);

@@ -1,9 +1,9 @@
 // Addresses, pages and frames, kept apart by type and converted by named functions alone, under the names of the x86_64 crate.
 ghost use mathlib.Core.Path.{_≡_};
-ghost use Prim.Native.Nat.{_*_, _/_, _%_, _^_};
+ghost use Prim.Native.Nat.{_*_, _/_, _%_};
 ghost use Rattle.address.specs.Canonical.{Canonical, canonical, user, checkedAddr};
-ghost use Rattle.address.specs.Paging.{pageOf, startOf, aligned};
-ghost use Rattle.address.specs.Tells.{Tells};
+ghost use Rattle.address.specs.Pages.{pageOf, startOf, aligned};
+ghost use Rattle.laws.specs.Tells.{Tells};
 
 mod flags;
 

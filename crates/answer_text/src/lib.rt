@@ -1,12 +1,12 @@
 // Answers as text: those of the manager and of the machine, and what is wrong with a line.
 mod answer;
-mod fault;
+mod bad_line;
 mod starts;
 
 pub use answer::Answer;
 pub use answer::put_answer;
 pub use answer::put_count;
 pub use answer::put_pair;
-pub use fault::put_fault;
-pub use fault::put_not_yet;
+pub use bad_line::put_fault;
+pub use bad_line::put_not_yet;
 pub use starts::put_starts;

@@ -7,7 +7,7 @@ use Prim.Native.Nat.{ℕ, zero, suc, _-_}
 use lib.Dec.{eqb, ltb}
 use lib.ListN.{take, drop}
 use Rattle.text.specs.declared.words.Word.{Word}
-use Rattle.text.specs.Words.{wordAt}
+use Rattle.text.specs.LineWords.{wordAt}
 use Rattle.call_text.specs.declared.choice.Choice.{Choice}
 use Rattle.call_text.specs.declared.choice.Choice.the-variants.{Is, Missing, Other}
 

@@ -1,5 +1,5 @@
 -- How the loop over a list of words finds a word's place.
-use mathlib.Core.Path.{_≡_, refl, sym, ap, _∙_}
+use mathlib.Core.Path.{_≡_, refl, sym, _∙_}
 use mathlib.Core.Bool.{Bool, true, false, _&&_, true≢false}
 use mathlib.Core.List.{List, [], _∷_}
 use Prim.Native.Nat.{ℕ, zero, suc, _+_, _-_, _≤_, _<_}
@@ -7,7 +7,7 @@ use native.Mathlib.Omega.{arith}
 use lib.Dec.{eqb}
 use borrow.Author.Tests.{eq-eqb, eqb-true}
 use Rattle.text.specs.declared.words.Word.{Word}
-use Rattle.text.specs.Words.{wordAt}
+use Rattle.text.specs.LineWords.{wordAt}
 use Rattle.call_text.specs.Choice.{textOf, sameb, placeFrom}
 
 -- ---- the test tells whether two texts are equal

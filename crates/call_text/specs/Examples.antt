@@ -3,8 +3,8 @@ use mathlib.Core.Path.{_≡_, refl}
 use mathlib.Core.Bool.{true, false}
 use mathlib.Core.List.{List, [], _∷_, map}
 use Prim.Native.String.{String}
-use Rattle.text.specs.Number.{digitOf, digitsb, valueFrom, fitting, digitsIn, numberIn}
-use Rattle.text.specs.Words.{blanks, letters, wordAt}
+use Rattle.text.specs.Numeral.{digitOf, digitsb, valueFrom, fitting, digitsIn, numberIn}
+use Rattle.text.specs.LineWords.{blanks, letters, wordAt}
 use Rattle.call_text.specs.declared.call.Call.{Call}
 use Rattle.call_text.specs.declared.call.Call.the-variants as call
 use Rattle.call_text.specs.declared.call.Either.the-variants as either
@@ -12,8 +12,8 @@ use Rattle.call_text.specs.declared.call.Fault.the-variants as fault
 use Rattle.call_text.specs.declared.call.Operand.the-variants as operand
 use Rattle.call_text.specs.declared.call.Spot.the-variants as spots
 use Rattle.call_text.specs.Choice.{codes, sameb, placeFrom, choiceAt}
-use Rattle.call_text.specs.Create.{threadAt, copyAt, marksAt, withMarks, partIn, mappedIn, privateIn, restIn, sizeIn, startIn, spotIn, kindAt, kindIn, createIn}
-use Rattle.call_text.specs.File.{bytesb, bytesIn, fileIn}
+use Rattle.call_text.specs.CreateLine.{threadAt, copyAt, marksAt, withMarks, partIn, mappedIn, privateIn, restIn, sizeIn, startIn, spotIn, kindAt, kindIn, createIn}
+use Rattle.call_text.specs.FileLine.{bytesb, bytesIn, fileIn}
 use Rattle.call_text.specs.Operand.{readAt, withRead, withValues, before, oneAt, twoAt, threeAt, withChoice, eitherAt, endedAt}
 use Rattle.call_text.specs.Parse.{otherName, nameOf, callNamed, callIn}
 use Rattle.call_text.specs.Plain.{formOf, callOf, formAt, callWith, plainIn, byteIn, storedIn, storeIn}

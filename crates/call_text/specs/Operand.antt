@@ -5,8 +5,8 @@ use Prim.Native.Nat.{ℕ}
 use Rattle.text.specs.declared.number.Number.{Number}
 use Rattle.text.specs.declared.number.Number.the-variants as number
 use Rattle.text.specs.declared.words.Word.{Word}
-use Rattle.text.specs.Number.{numberIn}
-use Rattle.text.specs.Words.{wordAt}
+use Rattle.text.specs.Numeral.{numberIn}
+use Rattle.text.specs.LineWords.{wordAt}
 use Rattle.call_text.specs.declared.call.Call.{Call}
 use Rattle.call_text.specs.declared.call.Call.the-variants as call
 use Rattle.call_text.specs.declared.call.Either.{Either}

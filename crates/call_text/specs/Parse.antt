@@ -7,7 +7,7 @@ use lib.ListN.{length, getD, take}
 use Rattle.text.specs.declared.lines.Held.{Held}
 use Rattle.text.specs.declared.words.Word.{Word}
 use Rattle.text.specs.Lines.{withoutReturn}
-use Rattle.text.specs.Words.{wordAt}
+use Rattle.text.specs.LineWords.{wordAt}
 use Rattle.call_text.specs.declared.call.Call.{Call}
 use Rattle.call_text.specs.declared.call.Call.the-variants as call
 use Rattle.call_text.specs.declared.call.Fault.the-variants as fault
@@ -15,8 +15,8 @@ use Rattle.call_text.specs.declared.parse.Name.{Name}
 use Rattle.call_text.specs.declared.parse.Name.the-variants as name
 use Rattle.call_text.specs.declared.plain.Plain.the-variants as plain
 use Rattle.call_text.specs.Choice.{codes, textOf, none, placeIn}
-use Rattle.call_text.specs.Create.{createIn}
-use Rattle.call_text.specs.File.{fileIn}
+use Rattle.call_text.specs.CreateLine.{createIn}
+use Rattle.call_text.specs.FileLine.{fileIn}
 use Rattle.call_text.specs.Plain.{plainIn, storeIn}
 
 -- the calls of document 01 that the program does not have yet

@@ -8,7 +8,7 @@ use borrow.Author.Tests.{eq-eqb, ne-eqb, lt-ltb, le-ltb}
 use Rattle.text.specs.declared.lines.Held.{Held}
 use Rattle.text.specs.declared.words.Word.{Word}
 use Rattle.text.specs.Lines.{withoutReturn}
-use Rattle.text.specs.Words.{wordAt}
+use Rattle.text.specs.LineWords.{wordAt}
 use Rattle.call_text.specs.declared.call.Call.{Call}
 use Rattle.call_text.specs.declared.call.Call.the-variants as call
 use Rattle.call_text.specs.declared.call.Fault.the-variants as fault

@@ -3,7 +3,7 @@ use mathlib.Core.Bool.{cond}
 use mathlib.Core.List.{List}
 use Prim.Native.Nat.{ℕ}
 use lib.Dec.{ltb}
-use Rattle.text.specs.Words.{wordAt}
+use Rattle.text.specs.LineWords.{wordAt}
 use Rattle.call_text.specs.declared.call.Call.{Call}
 use Rattle.call_text.specs.declared.call.Call.the-variants as call
 use Rattle.call_text.specs.declared.call.Fault.the-variants as fault

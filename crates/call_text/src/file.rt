@@ -1,7 +1,7 @@
 // `file`: whether it can be read, and its bytes as hexadecimal digits.
 ghost use mathlib.Core.Path.{_≡_};
-ghost use Rattle.text.specs.Number.{digitsb};
-ghost use Rattle.call_text.specs.File.{fileIn, bytesIn, bytesb};
+ghost use Rattle.text.specs.Numeral.{digitsb};
+ghost use Rattle.call_text.specs.FileLine.{fileIn, bytesIn, bytesb};
 use crate::call::Call;
 use crate::call::Either;
 use crate::call::Fault;

@@ -1,7 +1,7 @@
 // The calls of a script out of its lines: the lone manager's and the machine's.
 mod call;
 mod choice;
-mod create;
+mod creating;
 mod file;
 mod operand;
 mod parse;

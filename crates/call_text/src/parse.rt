@@ -6,7 +6,7 @@ ghost use Rattle.call_text.specs.Parse.{heldCall, callIn, callNamed, nam
 use crate::call::Call;
 use crate::call::Fault;
 use crate::choice::place_of;
-use crate::create::read_create;
+use crate::creating::read_create;
 use crate::file::read_file;
 use crate::plain::Plain;
 use crate::plain::read_plain;

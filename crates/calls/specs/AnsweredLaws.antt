@@ -1,11 +1,11 @@
 -- From the soundness test and a core to a call on any lent memory.
-use mathlib.Core.Path.{_≡_, refl, ap, sym, _∙_}
-use mathlib.Core.Bool.{Bool, true, false, _&&_, cond, false≢true, true≢false}
+use mathlib.Core.Path.{_≡_, refl, ap, sym}
+use mathlib.Core.Bool.{Bool, true, false, _&&_, cond, false≢true}
 use mathlib.Core.List.{List, []}
 use Prim.Native.Nat.{ℕ}
 use lib.ListN.{length}
 use lib.Dec.{eqb}
-use borrow.Author.Tests.{eqb-true, eqb-false, eq-eqb}
+use borrow.Author.Tests.{eqb-true, eq-eqb}
 use Rattle.answers.specs.declared.Refusal.{Refusal}
 use Rattle.answers.specs.declared.Refusal.the-variants.{BadTable}
 use Rattle.model.specs.declared.Done.the-variants.{Yes, No}
@@ -14,10 +14,10 @@ use Rattle.model.specs.Layout.{wordCount}
 use Rattle.model.specs.Answers.{After, leaving}
 use Rattle.model.specs.SoundTest.{soundb}
 use Rattle.model.specs.Calls.{sound}
-use Rattle.tables.specs.Guarded.{granted}
-use Rattle.tables.specs.FirstOf.{first-none}
-use Rattle.tables.specs.Lent.{stateOf, SoundWords, SoundFrames, OnSound, OnFrames, Does}
-use Rattle.soundness.specs.Lent.{soundLent}
+use Rattle.rows.specs.GuardedLaws.{granted}
+use Rattle.lookup.specs.FirstOfLaws.{first-none}
+use Rattle.rows.specs.LentMemory.{stateOf, SoundWords, SoundFrames, OnSound, OnFrames, Does}
+use Rattle.soundness.specs.SoundLent.{soundLent}
 use Rattle.calls.specs.Answered.{answerOn, Leaves}
 
 module _ (w f b : List ℕ) (told : soundLent w f b ≡ true) where

@@ -7,10 +7,10 @@ use native.Mathlib.Numerals.{unary-clauses}
 use native.Mathlib.Omega.{arith}
 use lib.ListN.{length, take, drop, replicate, length-replicate, replicate-append-replicate, take-append-drop}
 use lib.Seq.{take-at}
-use Rattle.model.specs.Lists.{pad, each, upFrom}
+use Rattle.laws.specs.Lists.{pad, each, upFrom}
 use Rattle.model.specs.Backing.{frameBytes, putFrame, zeroFrames}
-use Rattle.frames.specs.Put.{putAt}
-use Rattle.frames.specs.PutLaws.{put-put, length-putAt, length-part}
+use Rattle.frames.specs.PutBytes.{putAt}
+use Rattle.frames.specs.PutBytesLaws.{put-put, length-putAt, length-part}
 
 -- a frame's worth of bytes, put at its place
 pub put-frame : (l : List ℕ) (f : ℕ) (new : List ℕ) → length new ≡ 4096 → putAt l (f * 4096) new ≡ putFrame l f new

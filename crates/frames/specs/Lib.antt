@@ -1,4 +1,4 @@
 -- What the contracts cite, then laws about it.
-pub mod Put
-pub mod PutLaws
+pub mod PutBytes
+pub mod PutBytesLaws
 pub mod FrameLaws

@@ -1,12 +1,12 @@
 // The bytes of frames, in place: a frame of 4,096 bytes zeroed, copied, or filled from a file. No other byte changes.
-pub mod bytes;
+pub mod raw;
 
-use bytes::put_bytes;
-use bytes::put_zeros;
+use raw::put_bytes;
+use raw::put_zeros;
 ghost use mathlib.Core.Path.{_≡_};
 ghost use Prim.Native.Nat.{_+_, _-_, _*_, _≤_};
 ghost use lib.ListN.{length, take, drop, replicate};
-ghost use Rattle.model.specs.Lists.{pad};
+ghost use Rattle.laws.specs.Lists.{pad};
 ghost use Rattle.model.specs.Backing.{frameBytes, putFrame, zeroFrames};
 
 // Frame f becomes zeros.

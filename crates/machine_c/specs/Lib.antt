@@ -1,4 +1,5 @@
 -- The answers of the exported calls as numbers and words.
-pub mod Copied
+pub mod CopiedLaws
 pub mod Numbers
 pub mod Out
+pub mod OutLaws

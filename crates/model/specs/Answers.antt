@@ -1,5 +1,5 @@
 -- Answers: document 01's number and values for each case, "its number and zero elsewhere"; and how a call comes to refuse.
-use mathlib.Core.Bool.{Bool, true, cond}
+use mathlib.Core.Bool.{Bool, cond}
 use mathlib.Core.List.{List, [], _∷_}
 use Prim.Native.Nat.{ℕ}
 use lib.ListN.{length, replicate}
@@ -12,7 +12,7 @@ use Rattle.model.specs.declared.Placed.{Placed}
 use Rattle.model.specs.declared.Covering.{Covering}
 use Rattle.model.specs.declared.Loaded.{Loaded}
 use Rattle.model.specs.declared.Listed.{Listed}
-use Rattle.model.specs.Lists.{pad}
+use Rattle.laws.specs.Lists.{pad}
 use Rattle.model.specs.Machine.{State}
 
 -- what a call returns in document 01's numbers: the refusal's number (0: success) and the values

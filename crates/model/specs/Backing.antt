@@ -11,7 +11,7 @@ use Rattle.model.specs.declared.Found.{Found}
 use Rattle.model.specs.declared.Found.the-variants.{At, Nothing}
 use Rattle.model.specs.declared.Backed.{Backed}
 use Rattle.model.specs.declared.Backed.the-variants.{ByEntry, ByRange, Unbacked}
-use Rattle.model.specs.Lists.{keep, first, upFrom, each}
+use Rattle.laws.specs.Lists.{keep, first, upFrom, each}
 use Rattle.model.specs.Machine.{Machine, withEntries, withPool, regionAt, rowOf, noBacking, noEntry}
 use Rattle.model.specs.Lookup.{firstRow, isRanged, freeEntry, rowFound}
 

@@ -3,9 +3,8 @@ use mathlib.Core.Bool.{Bool, true, false, not, cond}
 use mathlib.Core.List.{List, [], _∷_}
 use Prim.Native.Nat.{ℕ, _/_}
 use lib.ListN.{length, set}
-use Rattle.address.specs.Canonical.{user}
 use Rattle.answers.specs.declared.Refusal.{Refusal}
-use Rattle.answers.specs.declared.Refusal.the-variants.{BadTable, InUse}
+use Rattle.answers.specs.declared.Refusal.the-variants.{BadTable}
 use Rattle.model.specs.declared.Process.{Process}
 use Rattle.model.specs.declared.Region.{Region}
 use Rattle.model.specs.declared.File.{File}
@@ -17,7 +16,6 @@ use Rattle.model.specs.declared.Placed.{Placed}
 use Rattle.model.specs.declared.Covering.{Covering}
 use Rattle.model.specs.declared.Loaded.{Loaded}
 use Rattle.model.specs.declared.Listed.{Listed}
-use Rattle.model.specs.Lists.{all}
 use Rattle.model.specs.Machine.{State, withMachine, withProcesses, regionAt, orderOf, emptyMachine}
 use Rattle.model.specs.Answers.{After, Try, leaving, fine, firstOf, listing, notListed}
 use Rattle.model.specs.Lookup.{rowFound, covered, startsOf}
@@ -27,7 +25,8 @@ use Rattle.model.specs.Populate.{corePopulate, corePopulateEagerCopies}
 use Rattle.model.specs.Carve.{coreCarve}
 use Rattle.model.specs.Clone.{coreCloneRegion, coreClone}
 use Rattle.model.specs.Protect.{setProtection}
-use Rattle.model.specs.Pins.{removeRegion, clearRegions, closeProcess, pinRegion, unpinRegion}
+use Rattle.model.specs.Remove.{removeRegion, clearRegions, closeProcess}
+use Rattle.model.specs.Pins.{pinRegion, unpinRegion}
 use Rattle.model.specs.Access.{loaded, stored}
 use Rattle.model.specs.SoundTest.{soundb}
 use Rattle.model.specs.Refusals.{slotAt, startRefusals, closedRow, openRefusals, closeRefusals, processRefusals, regionRefusals, carveRefusals, populateRefusals, cloneRegionRefusals, cloneProcessRefusals, protectRefusals, pinRefusals, unpinSlot, unpinRefusals, accessRefusals}

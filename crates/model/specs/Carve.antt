@@ -3,14 +3,14 @@ use mathlib.Core.Bool.{Bool, _&&_, _||_, not, cond}
 use mathlib.Core.List.{List, [], _∷_, _++_, map}
 use Prim.Native.Nat.{ℕ, _+_, _-_, _*_, _/_, min}
 use lib.Dec.{eqb, ltb, leb}
-use Rattle.address.specs.Paging.{aligned}
+use Rattle.address.specs.Pages.{aligned}
 use Rattle.answers.specs.declared.Refusal.{Refusal}
 use Rattle.answers.specs.declared.Refusal.the-variants.{EagerBacking, Shared, InUse, TableFull}
 use Rattle.model.specs.declared.Region.{Region}
 use Rattle.model.specs.declared.Done.{Done}
 use Rattle.model.specs.declared.Done.the-variants.{Yes, No}
 use Rattle.model.specs.declared.Listed.{Listed}
-use Rattle.model.specs.Lists.{keep, any}
+use Rattle.laws.specs.Lists.{keep, any}
 use Rattle.model.specs.Machine.{Machine, State, withMachine, withEntries, withRegion, withOrder, orderOf, regionAt, rowOf, userEnd}
 use Rattle.model.specs.Answers.{After, leaving, firstOf, listing, notListed}
 use Rattle.model.specs.Lookup.{isFile, isShared, isRanged, isPinned, overlaps, liesInside, spanEnd, startsOf, freeSlot, freeSlots, rowFound}

@@ -1,7 +1,7 @@
 -- Cloning a region and a process: the Rust's clone_into and copy_into.
 use mathlib.Core.Bool.{Bool, _&&_, _||_, not, cond}
 use mathlib.Core.List.{List, [], _∷_, _++_, map}
-use Prim.Native.Nat.{ℕ, _+_, _-_, _/_}
+use Prim.Native.Nat.{ℕ, _+_, _/_}
 use lib.ListN.{length}
 use lib.Dec.{eqb, ltb}
 use Rattle.address.specs.Flags.{readOnly}
@@ -9,7 +9,7 @@ use Rattle.answers.specs.declared.Refusal.{Refusal}
 use Rattle.answers.specs.declared.Refusal.the-variants.{SegmentReserved, OutOfMemory, TableFull}
 use Rattle.model.specs.declared.Region.{Region}
 use Rattle.model.specs.declared.Entry.{Entry}
-use Rattle.model.specs.Lists.{keep, each, upFrom}
+use Rattle.laws.specs.Lists.{keep, each, upFrom}
 use Rattle.model.specs.Machine.{Machine, State, withMachine, withFrames, withMapped, mappedOf, orderOf, regionAt, rowOf}
 use Rattle.model.specs.Answers.{Try, fine, firstOf, unless, andThen}
 use Rattle.model.specs.Lookup.{isShared, isRanged, segmentLen, freeSlot, freeEntries, rowFound, isFound}

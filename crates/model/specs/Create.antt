@@ -1,13 +1,13 @@
 -- Creation: its limits, its refusals, and the new region. Document 01, "Regions", first paragraph.
 use mathlib.Core.Bool.{Bool, true, false, _&&_, _||_, not, cond}
 use mathlib.Core.List.{List, [], _∷_, _++_}
-use Prim.Native.Nat.{ℕ, _+_, _-_, _*_, _^_}
+use Prim.Native.Nat.{ℕ, _+_, _*_}
 use lib.ListN.{length}
 use lib.Dec.{eqb, ltb, leb}
 use Rattle.address.specs.declared.VirtAddr.{VirtAddr}
 use Rattle.address.specs.Canonical.{user}
 use Rattle.address.specs.Flags.{goodFlags}
-use Rattle.address.specs.Paging.{aligned}
+use Rattle.address.specs.Pages.{aligned}
 use Rattle.answers.specs.declared.Refusal.{Refusal}
 use Rattle.answers.specs.declared.Refusal.the-variants.{NoProcess, BadAddress, BadRange, BadFlags, NoFile, NoSpace, SegmentReserved, OutOfMemory, TableFull}
 use Rattle.model.specs.declared.Region.{Region}

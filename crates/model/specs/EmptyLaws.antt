@@ -8,12 +8,12 @@ use native.Mathlib.Omega.{arith}
 use lib.ListN.{length, getD, take, replicate, List·getD-eq-default}
 use lib.Dec.{ltb, leb}
 use borrow.Author.Tests.{le-ltb, leb-true, ltb-false, eqb-true, not-false}
-use Rattle.address.specs.Tells.{tells-both}
+use Rattle.laws.specs.TellsLaws.{tells-both}
 use Rattle.answers.specs.declared.Refusal.the-variants.{BadTable}
 use Rattle.model.specs.declared.File.{File}
 use Rattle.model.specs.declared.Done.the-variants.{Yes, No}
-use Rattle.model.specs.Lists.{pad, keep, upFrom, first}
-use Rattle.model.specs.Tests.{tells-all, tells-le, tells-rows}
+use Rattle.laws.specs.Lists.{pad, keep, upFrom, first}
+use Rattle.laws.specs.TestLaws.{tells-all, tells-le, tells-rows}
 use Rattle.model.specs.Machine.{State, withMachine, emptyMachine, noFile, noBacking, noRegion, noEntry}
 use Rattle.model.specs.Answers.{fine, firstOf}
 use Rattle.model.specs.Backing.{inSome, freeFrames}

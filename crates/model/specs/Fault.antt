@@ -16,7 +16,7 @@ use Rattle.model.specs.declared.Backed.{Backed}
 use Rattle.model.specs.declared.Backed.the-variants.{ByEntry, ByRange, Unbacked}
 use Rattle.model.specs.declared.Way.{Way}
 use Rattle.model.specs.declared.Way.the-variants.{Refuse, Already, Restore, Map, Copy, Fill}
-use Rattle.model.specs.Lists.{pad}
+use Rattle.laws.specs.Lists.{pad}
 use Rattle.model.specs.Machine.{Machine, State, withMachine, withFrames, withMapped, withEntries, mappedOf, processAt, regionAt, rowOf, pages, noFile}
 use Rattle.model.specs.Answers.{Try, fine, firstOf, unless}
 use Rattle.model.specs.Lookup.{isShared, isFile, freeEntry, isFound}

@@ -1,5 +1,5 @@
 -- "up to 8 files, lent with their bytes and never changed": no call changes the files' bytes.
-use mathlib.Core.Path.{_≡_, refl, ap, sym, _∙_}
+use mathlib.Core.Path.{_≡_, refl, _∙_}
 use mathlib.Core.Bool.{Bool, true, false, _&&_, not, cond}
 use mathlib.Core.List.{List, [], _∷_}
 use Prim.Native.Nat.{ℕ, zero, suc, _+_, _/_}
@@ -7,7 +7,6 @@ use lib.Dec.{eqb, ltb}
 use Rattle.answers.specs.declared.Refusal.{Refusal}
 use Rattle.answers.specs.declared.Refusal.the-variants.{BadTable}
 use Rattle.model.specs.declared.Region.{Region}
-use Rattle.model.specs.declared.File.{File}
 use Rattle.model.specs.declared.Place.{Place}
 use Rattle.model.specs.declared.Found.{Found}
 use Rattle.model.specs.declared.Found.the-variants.{At, Nothing}
@@ -15,9 +14,9 @@ use Rattle.model.specs.declared.Way.{Way}
 use Rattle.model.specs.declared.Way.the-variants.{Refuse, Already, Restore, Map, Copy, Fill}
 use Rattle.model.specs.declared.Done.{Done}
 use Rattle.model.specs.declared.Done.the-variants.{Yes, No}
-use Rattle.model.specs.Lists.{each}
-use Rattle.model.specs.Machine.{State, regionAt, orderOf, mappedOf}
-use Rattle.model.specs.Answers.{After, Try, leaving, fine, refuse, firstOf, unless, andThen}
+use Rattle.laws.specs.Lists.{each}
+use Rattle.model.specs.Machine.{State, regionAt, mappedOf}
+use Rattle.model.specs.Answers.{After, Try, fine, firstOf, unless, andThen}
 use Rattle.model.specs.Lookup.{regionFor, isPrivate, pagesFor}
 use Rattle.model.specs.Paging.{pageStart, translate, wellMapped}
 use Rattle.model.specs.Create.{withRun, runNeeded, coreCreate}

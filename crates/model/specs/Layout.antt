@@ -9,7 +9,7 @@ use Rattle.model.specs.declared.Entry.{Entry}
 use Rattle.model.specs.declared.Backing.{Backing}
 use Rattle.model.specs.declared.Pool.{Pool}
 use Rattle.model.specs.declared.File.{File}
-use Rattle.model.specs.Rows.{rows}
+use Rattle.laws.specs.Rows.{rows}
 use Rattle.model.specs.Machine.{Machine}
 
 -- how many words are lent

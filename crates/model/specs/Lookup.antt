@@ -1,13 +1,13 @@
 -- Looking things up: the region at an address, spans, segments, covers, free slots and entries.
 use mathlib.Core.Bool.{Bool, true, false, _&&_, _||_, not, cond}
 use mathlib.Core.List.{List, [], _∷_, map}
-use Prim.Native.Nat.{ℕ, zero, suc, _+_, _-_, _*_, _/_}
+use Prim.Native.Nat.{ℕ, zero, suc, _+_, _*_, _/_}
 use lib.ListN.{length}
 use lib.Dec.{eqb, ltb, leb}
 use Rattle.model.specs.declared.Region.{Region}
 use Rattle.model.specs.declared.Found.{Found}
 use Rattle.model.specs.declared.Found.the-variants.{At, Nothing}
-use Rattle.model.specs.Lists.{part, among}
+use Rattle.laws.specs.Lists.{part, among}
 use Rattle.model.specs.Machine.{Machine, processAt, regionAt, orderOf}
 
 -- the first of some slots that passes a test

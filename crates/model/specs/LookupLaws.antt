@@ -1,16 +1,17 @@
 -- What the look-ups find, and that `covered` is document 01's sentence: every address of the range lies in an attached region.
-use mathlib.Core.Path.{_≡_, refl, ap, sym, subst, _∙_}
-use mathlib.Core.Bool.{Bool, true, false, _&&_, _||_, not, cond, true≢false, false≢true}
+use mathlib.Core.Path.{_≡_, refl, sym, subst}
+use mathlib.Core.Bool.{Bool, true, false, _&&_, _||_, cond, true≢false, false≢true}
 use mathlib.Core.List.{List, [], _∷_}
-use Prim.Native.Nat.{ℕ, zero, suc, _+_, _≤_, _<_, zero-le, suc-le-suc}
+use Prim.Native.Nat.{ℕ, zero, suc, _+_, _≤_, _<_, zero-le}
 use native.Mathlib.Omega.{arith}
 use lib.ListN.{length}
 use lib.Dec.{eqb, ltb, leb}
 use borrow.Author.Tests.{ltb-true, ltb-false, leb-true, leb-false, eqb-true, lt-ltb, le-ltb, le-leb, eq-eqb}
-use Rattle.address.specs.Tells.{Tells, tells-of}
+use Rattle.laws.specs.Tells.{Tells}
+use Rattle.laws.specs.TellsLaws.{tells-of}
 use Rattle.model.specs.declared.Found.{Found}
 use Rattle.model.specs.declared.Found.the-variants.{At, Nothing}
-use Rattle.model.specs.Lists.{any, among}
+use Rattle.laws.specs.Lists.{any, among}
 use Rattle.model.specs.Machine.{Machine, regionAt, orderOf}
 use Rattle.model.specs.Lookup.{firstSlot, count, contains, spanEnd, regionFor, coveredFrom, covered}
 

@@ -9,7 +9,7 @@ use Rattle.model.specs.declared.Entry.{Entry}
 use Rattle.model.specs.declared.Backing.{Backing}
 use Rattle.model.specs.declared.Pool.{Pool}
 use Rattle.model.specs.declared.File.{File}
-use Rattle.model.specs.Lists.{part, putPart, pad}
+use Rattle.laws.specs.Lists.{part, putPart, pad}
 
 -- "Each of 8 processes has 64 region slots .. and 128 mapped pages. There are 512 page entries in all, up to 8 files,
 -- .. and 0 to 256 frames": rows of the tables

@@ -1,18 +1,18 @@
 -- Laws of the tables: what a process's list or page table reads after it was written, and what a change leaves alone.
-use mathlib.Core.Path.{_≡_, refl, ap, sym, subst, _∙_}
+use mathlib.Core.Path.{_≡_, refl, ap, _∙_}
 use mathlib.Core.Bool.{Bool, true, false, cond}
-use mathlib.Core.List.{List, [], _∷_, _++_}
-use Prim.Native.Nat.{ℕ, zero, suc, _+_, _-_, _*_, _≤_, _<_}
+use mathlib.Core.List.{List, [], _∷_}
+use Prim.Native.Nat.{ℕ, zero, suc, _-_, _*_, _≤_, _<_}
 use native.Mathlib.Nat.{le-of-suc-le-suc, not-suc-le-zero}
 use native.Mathlib.Omega.{arith}
-use lib.ListN.{length, getD, set, take, drop, length-take}
+use lib.ListN.{length, getD, set, take, length-take}
 use lib.Seq.{getD-set-same, length-take-le, take-at, drop-at}
 use lib.Dec.{leb}
 use Rattle.model.specs.declared.Process.{Process}
 use Rattle.model.specs.declared.Mapping.{Mapping}
 use Rattle.model.specs.declared.Backed.{Backed}
 use Rattle.model.specs.declared.Backed.the-variants.{ByEntry, ByRange, Unbacked}
-use Rattle.model.specs.Lists.{part, putPart, pad}
+use Rattle.laws.specs.Lists.{part, putPart, pad}
 use Rattle.model.specs.Machine.{Machine, processAt, orderOf, mappedOf, withMapped, withOrder, attachedOf, mappedCount, noProcess, noMapping}
 use Rattle.model.specs.Backing.{backingAt, withBacking, withBackings, claim, letGo, addEntry}
 use Rattle.model.specs.Fault.{reEntry}

@@ -9,7 +9,7 @@ use Rattle.model.specs.declared.Region.{Region}
 use Rattle.model.specs.declared.Mapping.{Mapping}
 use Rattle.model.specs.declared.Translated.{Translated}
 use Rattle.model.specs.declared.Translated.the-variants.{Mapped, NotMapped}
-use Rattle.model.specs.Lists.{keep}
+use Rattle.laws.specs.Lists.{keep}
 use Rattle.model.specs.Machine.{Machine, mappedOf, withMapped}
 use Rattle.model.specs.Lookup.{contains}
 

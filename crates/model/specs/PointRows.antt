@@ -1,7 +1,7 @@
 -- P1 to P12 of document 01, as rows of the table.
 use mathlib.Core.Bool.{true, false}
 use mathlib.Core.List.{List, [], _∷_, map}
-use Prim.Native.Nat.{ℕ, _*_, _^_}
+use Prim.Native.Nat.{ℕ, _*_}
 use lib.ListN.{replicate}
 use Rattle.answers.specs.declared.Refusal.{Refusal}
 use Rattle.answers.specs.declared.Refusal.the-variants.{Shared, NotWritable}
@@ -11,7 +11,7 @@ use Rattle.model.specs.declared.File.{File}
 use Rattle.model.specs.declared.Place.{Place}
 use Rattle.model.specs.Machine.{State, emptyMachine}
 use Rattle.model.specs.Run.{Call}
-use Rattle.model.specs.Table.{Event, does, sees, Look, World, ok, says, lists, listsNot, Row, managerRow}
+use Rattle.model.specs.PointTable.{Event, does, sees, Look, World, ok, says, lists, listsNot, Row, managerRow}
 
 -- a machine that is yet to be started, with n frames of bytes 7, the files and their bytes
 unfoldable pub unstarted : ℕ → List File → List ℕ → State

@@ -1,15 +1,15 @@
 -- P1 to P12 and two points of our own, together: one table, one statement, proved by computing the definitions.
-use mathlib.Core.Path.{_≡_, refl, ap, sym, _∙_}
-use mathlib.Core.Bool.{Bool, true, _&&_}
+use mathlib.Core.Path.{_≡_, refl}
+use mathlib.Core.Bool.{Bool, true}
 use mathlib.Core.List.{List, [], _∷_, _++_}
 use Prim.Native.Nat.{ℕ, _<_}
 use lib.ListN.{length, getD}
 use Rattle.segments.specs.Points as segments
-use Rattle.model.specs.Lists.{all}
-use Rattle.model.specs.Tests.{tells-all, tells-bool}
+use Rattle.laws.specs.Lists.{all}
+use Rattle.laws.specs.TestLaws.{tells-all, tells-bool}
 use Rattle.model.specs.Open.{everything}
-use Rattle.model.specs.Table.{Row, Holds, holdsb}
-use Rattle.model.specs.TableLaws.{and-both, all-both, holds-told}
+use Rattle.model.specs.PointTable.{Row, Holds, holdsb}
+use Rattle.model.specs.PointTableLaws.{and-both, all-both, holds-told}
 use Rattle.model.specs.PointRows.{p1-6, p7, p8, p9, p10, p10′, p11, p12, unstarted}
 use Rattle.model.specs.RangeRows.{rangePage, populates, opened}
 

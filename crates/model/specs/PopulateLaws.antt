@@ -1,27 +1,26 @@
 -- Populate's walk from page to page and from gap to region is every page of the range in turn.
 use mathlib.Core.Path.{_≡_, refl, ap, sym, subst, _∙_}
-use mathlib.Core.Bool.{Bool, true, false, _&&_, _||_, not, cond, true≢false, false≢true}
+use mathlib.Core.Bool.{Bool, true, false, _&&_, _||_, cond, false≢true}
 use mathlib.Core.List.{List, [], _∷_, map}
-use Prim.Native.Nat.{ℕ, zero, suc, _+_, _-_, _*_, _/_, _%_, _≤_, _<_, zero-le, suc-le-suc}
-use native.Mathlib.Nat.{not-suc-le-zero}
+use Prim.Native.Nat.{ℕ, zero, suc, _+_, _-_, _/_, _%_, _≤_, _<_}
 use native.Mathlib.Numerals.{add-one}
 use native.Mathlib.Omega.{arith}
-use lib.ListN.{length, getD}
-use lib.Dec.{eqb, ltb, leb}
+use lib.ListN.{getD}
+use lib.Dec.{eqb, ltb}
 use borrow.Author.Tests.{ltb-true, ltb-false, leb-true, eqb-true, lt-ltb, le-ltb, le-leb, eq-eqb}
 use Rattle.model.specs.declared.Found.{Found}
 use Rattle.model.specs.declared.Found.the-variants.{At, Nothing}
 use Rattle.model.specs.declared.Done.{Done}
 use Rattle.model.specs.declared.Done.the-variants.{Yes, No}
-use Rattle.model.specs.Lists.{any, among}
+use Rattle.laws.specs.Lists.{any, among}
 use Rattle.model.specs.Machine.{Machine, State, regionAt, rowOf, orderOf, mappedOf, noRegion}
-use Rattle.model.specs.Answers.{Try, fine, refuse, andThen}
-use Rattle.model.specs.Lookup.{count, contains, spanEnd, regionFor}
+use Rattle.model.specs.Answers.{Try, fine, andThen}
+use Rattle.model.specs.Lookup.{count, spanEnd, regionFor}
 use Rattle.model.specs.Paging.{pageStart}
-use Rattle.model.specs.Populate.{lower, lowestAbove, nextStart, populatePage, pageIn, onePage, everyPage, visit, visits}
-use Rattle.model.specs.LookupLaws.{first-found, first-none, count-fewer, count-more, count-most, clash, never-found, same-slot, both-true}
-use Rattle.model.specs.MappedLaws.{below, below-most, below-next}
-use Rattle.model.specs.VisitLaws.{Fits, Went, went-page}
+use Rattle.model.specs.Populate.{lower, lowestAbove, nextStart, populatePage, pageIn, everyPage, visit}
+use Rattle.model.specs.LookupLaws.{first-found, first-none, count-fewer, count-more, clash, both-true}
+use Rattle.model.specs.MappedBelowLaws.{below, below-most, below-next}
+use Rattle.model.specs.VisitLaws.{Fits, went-page}
 
 -- ---- the lowest number above another
 

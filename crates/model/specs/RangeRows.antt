@@ -7,7 +7,7 @@ use Rattle.model.specs.declared.File.{File}
 use Rattle.model.specs.Machine.{State}
 use Rattle.model.specs.Calls.{coreOpen}
 use Rattle.model.specs.Run.{Call}
-use Rattle.model.specs.Table.{Event, does, sees, Look, ok, Row}
+use Rattle.model.specs.PointTable.{Event, does, sees, Look, ok, Row}
 use Rattle.model.specs.PointRows.{unstarted, around, rw, ro, lazy, whole, done, refuses}
 
 abbrev pub byte : ℕ → ℕ → ℕ → Event

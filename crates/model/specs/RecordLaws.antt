@@ -7,14 +7,16 @@ use Prim.Native.Nat.{ℕ, _+_, _-_, _≤_, _<_}
 use native.Mathlib.Omega.{arith}
 use lib.ListN.{length, drop}
 use lib.Dec.{eqb}
-use Rattle.address.specs.Tells.{Tells, tells-both}
+use Rattle.laws.specs.Tells.{Tells}
+use Rattle.laws.specs.TellsLaws.{tells-both}
 use Rattle.model.specs.declared.Process.{Process}
 use Rattle.model.specs.declared.Region.{Region}
 use Rattle.model.specs.declared.Mapping.{Mapping}
 use Rattle.model.specs.declared.Entry.{Entry}
 use Rattle.model.specs.declared.File.{File}
-use Rattle.model.specs.Lists.{part, among}
-use Rattle.model.specs.Tests.{Rows, Pairs, allRows, allPairs, tells-eq, tells-le, tells-lt, tells-bool, tells-not, tells-or, tells-if, tells-unless, tells-as, tells-rows, tells-pairs}
+use Rattle.laws.specs.Lists.{part, among}
+use Rattle.laws.specs.Tests.{Rows, Pairs, allRows, allPairs}
+use Rattle.laws.specs.TestLaws.{tells-eq, tells-le, tells-lt, tells-bool, tells-not, tells-or, tells-if, tells-unless, tells-as, tells-rows, tells-pairs}
 use Rattle.model.specs.Machine.{Machine, State, regionAt, orderOf, mappedOf, noProcess, noRegion, noMapping, noEntry, noBacking, noFile}
 use Rattle.model.specs.Lookup.{regionsOf}
 use Rattle.model.specs.Sound.{Used, R6, Sound, Sized, FileFits, ProcessFits, Ordered, Paged, Limits, RegionFits, Entered, EntryFits, Hold, noHold, holds}

@@ -1,8 +1,8 @@
 -- "Of several the lowest number wins": every call's tests stand in the order of their numbers, so the first that is true is the lowest.
-use mathlib.Core.Path.{_≡_, refl, ap, sym, subst, _∙_}
-use mathlib.Core.Bool.{Bool, true, false, _&&_, cond, true≢false, false≢true}
+use mathlib.Core.Path.{_≡_, refl, ap, sym, _∙_}
+use mathlib.Core.Bool.{Bool, true, false, _&&_, cond, false≢true}
 use mathlib.Core.List.{List, [], _∷_}
-use Prim.Native.Nat.{ℕ, zero, suc, _+_, _≤_, _<_}
+use Prim.Native.Nat.{ℕ, zero, suc, _≤_, _<_}
 use native.Mathlib.Nat.{le-of-suc-le-suc, not-suc-le-zero}
 use native.Mathlib.Omega.{arith}
 use lib.ListN.{length, getD}
@@ -16,8 +16,7 @@ use Rattle.model.specs.declared.File.{File}
 use Rattle.model.specs.declared.Place.{Place}
 use Rattle.model.specs.declared.Way.{Way}
 use Rattle.model.specs.declared.Way.the-variants.{Refuse, Already, Restore, Map, Copy, Fill}
-use Rattle.model.specs.declared.Done.{Done}
-use Rattle.model.specs.declared.Done.the-variants.{Yes, No}
+use Rattle.model.specs.declared.Done.the-variants.{No}
 use Rattle.model.specs.Machine.{Machine, State}
 use Rattle.model.specs.Answers.{firstOf}
 use Rattle.model.specs.Create.{createRefusals}

@@ -1,23 +1,23 @@
 -- Which refusals each call gives before its core, in the order of their numbers. Document 01, "Answer numbers": "Of several the lowest number wins".
 -- BadTable stands before all of them (Calls: guarded); what faults, carves and clones refuse further is in Fault, Carve and Clone.
-use mathlib.Core.Bool.{Bool, true, false, _&&_, _||_, not}
+use mathlib.Core.Bool.{Bool, _&&_, _||_, not}
 use mathlib.Core.List.{List, [], _∷_}
 use Prim.Native.Nat.{ℕ, _+_, _/_, _%_}
 use lib.ListN.{length}
 use lib.Dec.{eqb, ltb, leb}
 use Rattle.address.specs.Canonical.{user}
 use Rattle.address.specs.Flags.{goodFlags}
-use Rattle.address.specs.Paging.{aligned}
+use Rattle.address.specs.Pages.{aligned}
 use Rattle.answers.specs.declared.Refusal.{Refusal}
 use Rattle.answers.specs.declared.Refusal.the-variants.{BadTable, NoProcess, BadAddress, BadRange, BadFlags, NoRegion, UnsupportedRegion, InUse, TableFull, Denied}
 use Rattle.model.specs.declared.File.{File}
 use Rattle.model.specs.declared.Found.{Found}
-use Rattle.model.specs.Lists.{all}
+use Rattle.laws.specs.Lists.{all}
 use Rattle.model.specs.Machine.{Machine, State, regionAt, userEnd, mostPins}
 use Rattle.model.specs.Lookup.{isOpen, isShared, isPinned, isFound, rowFound, firstRow, regionFor, anyRegionFor}
 use Rattle.model.specs.Populate.{upperLast}
 use Rattle.model.specs.Carve.{badBounds}
-use Rattle.model.specs.Pins.{pinStands}
+use Rattle.model.specs.Remove.{pinStands}
 use Rattle.model.specs.Access.{granted, pageAt}
 
 -- the refusals that several calls begin with

@@ -7,7 +7,7 @@ use Prim.Native.Nat.{ℕ, _+_, _-_, _*_, _/_, _^_, _≤_, _<_}
 use lib.ListN.{length, getD, take, drop}
 use lib.Dec.{eqb}
 use Rattle.address.specs.Flags.{goodFlags, readOnly}
-use Rattle.address.specs.Paging.{aligned}
+use Rattle.address.specs.Pages.{aligned}
 use Rattle.model.specs.declared.Process.{Process}
 use Rattle.model.specs.declared.Region.{Region}
 use Rattle.model.specs.declared.Mapping.{Mapping}
@@ -17,8 +17,8 @@ use Rattle.model.specs.declared.Found.{Found}
 use Rattle.model.specs.declared.Found.the-variants.{At, Nothing}
 use Rattle.model.specs.declared.Backed.{Backed}
 use Rattle.model.specs.declared.Backed.the-variants.{ByEntry, ByRange, Unbacked}
-use Rattle.model.specs.Lists.{part, keep, among, first}
-use Rattle.model.specs.Tests.{Rows, Pairs}
+use Rattle.laws.specs.Lists.{part, keep, among, first}
+use Rattle.laws.specs.Tests.{Rows, Pairs}
 use Rattle.model.specs.Machine.{Machine, State, regionAt, orderOf, mappedOf, noProcess, noRegion, noMapping, noEntry, noBacking, noFile, userEnd, mostPins}
 use Rattle.model.specs.Lookup.{regionsOf, contains, segmentEnd, pagesFor, isUsed, isShared, isRanged, count}
 use Rattle.model.specs.Paging.{pageStart, isWritable, allFour}

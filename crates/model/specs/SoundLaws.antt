@@ -6,20 +6,22 @@ use mathlib.Core.List.{List}
 use Prim.Native.Nat.{ℕ, _+_, _-_, _≤_, _<_}
 use native.Mathlib.Omega.{arith}
 use lib.Dec.{eqb, leb}
-use Rattle.address.specs.Tells.{Tells, tells-of, tells-both}
+use Rattle.laws.specs.Tells.{Tells}
+use Rattle.laws.specs.TellsLaws.{tells-of, tells-both}
 use Rattle.model.specs.declared.Process.{Process}
 use Rattle.model.specs.declared.Region.{Region}
 use Rattle.model.specs.declared.Mapping.{Mapping}
 use Rattle.model.specs.declared.Backing.{Backing}
 use Rattle.model.specs.declared.Found.{Found}
 use Rattle.model.specs.declared.Found.the-variants.{At, Nothing}
-use Rattle.model.specs.Tests.{Rows, allRows, tells-eq, tells-le, tells-lt, tells-bool, tells-not, tells-or, tells-if, tells-unless, tells-as, tells-rows, tells-pairs}
+use Rattle.laws.specs.Tests.{Rows, allRows}
+use Rattle.laws.specs.TestLaws.{tells-eq, tells-le, tells-lt, tells-bool, tells-not, tells-or, tells-if, tells-unless, tells-as, tells-rows, tells-pairs}
 use Rattle.model.specs.Machine.{Machine, regionAt, mappedOf, noProcess, noRegion, noMapping, noBacking}
 use Rattle.model.specs.Lookup.{regionsOf, isUsed}
 use Rattle.model.specs.Paging.{isWritable}
 use Rattle.model.specs.Backing.{backing}
 use Rattle.model.specs.Protect.{holdersBy}
-use Rattle.model.specs.Sound.{Used, Apart, R1, R2, R3, R4, R5, R6, Homed, Flagged, holdersOf, homeOf, frameBy}
+use Rattle.model.specs.Sound.{Used, Apart, R1, R2, R3, R4, R5, Homed, Flagged, holdersOf, homeOf, frameBy}
 use Rattle.model.specs.SoundTest.{apartb, r1b, endsBefore, backingApart, r2b, counted, r3b, sameFound, whenFound, homedb, r4b, flaggedb, flagsFit, r5b}
 
 -- a test that is always true

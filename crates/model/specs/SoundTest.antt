@@ -5,7 +5,7 @@ use Prim.Native.Nat.{ℕ, _+_, _-_, _*_, _^_}
 use lib.ListN.{length, getD, drop}
 use lib.Dec.{eqb, ltb, leb}
 use Rattle.address.specs.Flags.{goodFlags, readOnly}
-use Rattle.address.specs.Paging.{aligned}
+use Rattle.address.specs.Pages.{aligned}
 use Rattle.model.specs.declared.Process.{Process}
 use Rattle.model.specs.declared.Region.{Region}
 use Rattle.model.specs.declared.Mapping.{Mapping}
@@ -14,8 +14,8 @@ use Rattle.model.specs.declared.Backing.{Backing}
 use Rattle.model.specs.declared.File.{File}
 use Rattle.model.specs.declared.Found.{Found}
 use Rattle.model.specs.declared.Found.the-variants.{At, Nothing}
-use Rattle.model.specs.Lists.{part, among, first}
-use Rattle.model.specs.Tests.{allRows, allPairs}
+use Rattle.laws.specs.Lists.{part, among, first}
+use Rattle.laws.specs.Tests.{allRows, allPairs}
 use Rattle.model.specs.Machine.{Machine, State, regionAt, orderOf, mappedOf, noRegion, userEnd, mostPins}
 use Rattle.model.specs.Lookup.{regionsOf, contains, segmentEnd, pagesFor, isUsed}
 use Rattle.model.specs.Paging.{pageStart, isWritable, allFour}

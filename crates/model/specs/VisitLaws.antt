@@ -1,11 +1,11 @@
 -- One page of populate: where it does not refuse, the page is mapped afterwards, and regions and list are as before.
-use mathlib.Core.Path.{_≡_, refl, ap, sym, subst, _∙_}
-use mathlib.Core.Bool.{Bool, true, false, _&&_, _||_, not, cond, true≢false, false≢true}
+use mathlib.Core.Path.{_≡_, refl, _∙_}
+use mathlib.Core.Bool.{Bool, true, false, _&&_, not, cond, true≢false}
 use mathlib.Core.List.{List, [], _∷_}
-use Prim.Native.Nat.{ℕ, zero, suc, _+_, _*_, _≤_, _<_}
+use Prim.Native.Nat.{ℕ, suc, _+_, _*_, _≤_, _<_}
 use native.Mathlib.Omega.{arith}
-use lib.ListN.{length, set, length-set}
-use lib.Dec.{eqb, leb}
+use lib.ListN.{length, length-set}
+use lib.Dec.{eqb}
 use borrow.Author.Tests.{leb-false}
 use Rattle.address.specs.declared.PhysFrame.{PhysFrame}
 use Rattle.address.specs.declared.flags.PageTableFlags.{PageTableFlags}
@@ -22,16 +22,16 @@ use Rattle.model.specs.declared.Way.{Way}
 use Rattle.model.specs.declared.Way.the-variants.{Refuse, Already, Restore, Map, Copy, Fill}
 use Rattle.model.specs.declared.Done.{Done}
 use Rattle.model.specs.declared.Done.the-variants.{Yes, No}
-use Rattle.model.specs.Lists.{putPart}
-use Rattle.model.specs.Machine.{Machine, State, withMapped, mappedOf, orderOf, processAt, regionAt, rowOf, mappedCount}
-use Rattle.model.specs.Answers.{Try, fine, refuse, firstOf, unless}
+use Rattle.laws.specs.Lists.{putPart}
+use Rattle.model.specs.Machine.{Machine, State, withMapped, mappedOf, orderOf, processAt, regionAt, rowOf}
+use Rattle.model.specs.Answers.{fine, firstOf, unless}
 use Rattle.model.specs.Lookup.{isShared}
-use Rattle.model.specs.Paging.{isWritable, isUser, translate, mapPage, unmapPage, remapWhere, wellMapped, mapping}
-use Rattle.model.specs.Backing.{backing, claim}
-use Rattle.model.specs.Fault.{faultWay, privateWay, sharedWay, wayRefusals, goWay, ownFrame, handleFault, noRoom, isMapped, reEntry}
+use Rattle.model.specs.Paging.{isWritable, isUser, translate, mapPage, unmapPage, remapWhere, wellMapped}
+use Rattle.model.specs.Backing.{backing}
+use Rattle.model.specs.Fault.{faultWay, privateWay, sharedWay, wayRefusals, goWay, ownFrame, handleFault, noRoom, isMapped}
 use Rattle.model.specs.Populate.{populatePage}
 use Rattle.model.specs.MachineLaws.{mapped-put, order-mapped, mapped-length, Books, books-then, books-claim, books-re-entry, books-order}
-use Rattle.model.specs.MappedLaws.{below, below-next, below-here, below-map, length-map, below-unmap, length-unmap, length-unmapped, below-remap, length-remap}
+use Rattle.model.specs.MappedBelowLaws.{below, below-next, below-here, below-map, length-map, below-unmap, length-unmap, length-unmapped, below-remap, length-remap}
 
 -- the process's rows are there, and its page table fits them
 pub record Fits (m : Machine) (p : ℕ) : Type 0 where

@@ -13,16 +13,17 @@ use Rattle.model.specs.declared.Process.{Process}
 use Rattle.model.specs.declared.Region.{Region}
 use Rattle.model.specs.declared.Mapping.{Mapping}
 use Rattle.model.specs.declared.Translated.the-variants.{NotMapped}
-use Rattle.model.specs.Lists.{part, putPart, pad, keep}
-use Rattle.model.specs.Tests.{Rows}
+use Rattle.laws.specs.Lists.{part, putPart, pad, keep}
+use Rattle.laws.specs.Tests.{Rows}
 use Rattle.model.specs.Machine.{Machine, processAt, mappedOf, withMapped, mappedCount, noProcess, noMapping}
 use Rattle.model.specs.MachineLaws.{part-put, pad-length, mapped-put}
 use Rattle.model.specs.Paging.{mapping, mapsIn, translate, mapPage, unmapPage, unmapFrom, remapWhere}
 use Rattle.paging.specs.Place.{pageAt}
-use Rattle.paging.specs.RowsLaws.{mapped-most}
-use Rattle.paging.specs.OrderLaws.{Rising, From, rising-rest, rising-from, from-rest, not-first, page-under, remapPage}
+use Rattle.paging.specs.ProcessRowsLaws.{mapped-most}
+use Rattle.paging.specs.Order.{Rising}
+use Rattle.paging.specs.OrderLaws.{From, rising-rest, rising-from, from-rest, not-first, page-under, remapPage}
 use Rattle.paging.specs.MapperLaws.{WellPaged}
-use Rattle.model.specs.MappedLaws as mapped-laws
+use Rattle.model.specs.MappedBelowLaws as mapped-laws
 
 -- ---- page order
 

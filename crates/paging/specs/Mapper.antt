@@ -11,7 +11,7 @@ use Rattle.model.specs.Machine.{Machine, mappedOf, noMapping}
 use Rattle.model.specs.Lookup.{spanEnd, pagesFor}
 use Rattle.model.specs.Paging.{mapping}
 use Rattle.paging.specs.Place.{place, rowFor}
-use Rattle.paging.specs.Rows.{rowsOf, withRows, withCount, rowPut, rowsTaken}
+use Rattle.paging.specs.ProcessRows.{rowsOf, withRows, withCount, rowPut, rowsTaken}
 
 abbrev pub mappedPages : Machine → ℕ → ℕ
 mappedPages m p = length (mappedOf m p)

@@ -13,19 +13,20 @@ use Rattle.model.specs.declared.Mapping.{Mapping}
 use Rattle.model.specs.declared.Found.{Found}
 use Rattle.model.specs.declared.Found.the-variants.{At, Nothing}
 use Rattle.model.specs.declared.Translated.the-variants.{NotMapped}
-use Rattle.model.specs.Lists.{part, pad}
+use Rattle.laws.specs.Lists.{part, pad}
 use Rattle.model.specs.Machine.{Machine, State, processAt, mappedOf, withMapped, mappedCount, noProcess, noMapping}
 use Rattle.model.specs.Sound.{Sound, Paged}
 use Rattle.model.specs.Paging.{translate, mapPage, unmapPage, unmapFrom}
-use Rattle.model.specs.MappedLaws.{below, below-most}
+use Rattle.model.specs.MappedBelowLaws.{below, below-most}
 use Rattle.model.specs.Lookup.{isFound}
 use Rattle.model.specs.Fault.{isMapped}
 use Rattle.paging.specs.Place.{place, rowFor, mappedAt, translateBy}
 use Rattle.paging.specs.PlaceLaws.{row-inside}
-use Rattle.paging.specs.Rows.{rowsOf, withRows, withCount, rowPut, rowsTaken}
-use Rattle.paging.specs.RowsLaws.{rows-of-length, mapped-row, mapped-most, rows-put-same}
+use Rattle.paging.specs.ProcessRows.{rowsOf, withRows, withCount, rowPut, rowsTaken}
+use Rattle.paging.specs.ProcessRowsLaws.{rows-of-length, mapped-row, mapped-most, rows-put-same}
 use Rattle.paging.specs.PadLaws.{pad-take, put-in-pad, take-out-of-pad, set-in-pad}
-use Rattle.paging.specs.OrderLaws.{Rising, place-below, translate-by, stands-mapped, map-below, remapPage, remap-at, remap-missing, unmap-at, unmap-missing, below-mono, first-end, keep-region}
+use Rattle.paging.specs.Order.{Rising}
+use Rattle.paging.specs.OrderLaws.{place-below, translate-by, stands-mapped, map-below, remapPage, remap-at, remap-missing, unmap-at, unmap-missing, below-mono, first-end, keep-region}
 use Rattle.paging.specs.Mapper.{mappedPages, inserted, takenOut, mapBy, unmapRow, unmapBy, reflag, remapRow, remapBy, firstPage, endPage, takenIf, unmapFromBy}
 
 -- at most 128 pages are mapped, in page order, and the rows past them are free

@@ -10,9 +10,9 @@ use lib.Seq.{slice, length-slice, paste, paste-zero, paste-suc}
 use Rattle.model.specs.declared.Mapping.{Mapping}
 use Rattle.model.specs.Layout.{wordCount, machine}
 use Rattle.model.specs.Machine.{noMapping}
-use Rattle.paging.specs.Rows.{rowsOf, withRows, putRows}
-use Rattle.paging.specs.RowsLaws.{mapped-rows, rows-of-length, Rowed, rowed-first, rowed-rows, rowed-put}
-use Rattle.paging.specs.PutLaws.{raise-first, raise-more, paste-all, paste-past}
+use Rattle.paging.specs.ProcessRows.{rowsOf, withRows, putRows}
+use Rattle.paging.specs.ProcessRowsLaws.{mapped-rows, rows-of-length, Rowed, rowed-first, rowed-rows, rowed-put}
+use Rattle.paging.specs.PutRowsLaws.{raise-first, raise-more, paste-all, paste-past}
 
 -- the rows at the start
 abbrev atStart : List ℕ → ℕ → List Mapping

@@ -1,4 +1,4 @@
--- Where pages rise: the halving search counts the pages below, and each of the model's operations is a change at that place.
+-- Laws of `Order`: where pages rise: the halving search counts the pages below, and each of the model's operations is a change at that place.
 use mathlib.Core.Path.{_≡_, refl, ap, sym, _∙_}
 use mathlib.Core.Bool.{Bool, true, false, _&&_, not, cond}
 use mathlib.Core.List.{List, [], _∷_, _++_}
@@ -9,25 +9,22 @@ use native.Mathlib.Numerals.{add-one}
 use lib.ListN.{length, getD, take, drop, set}
 use lib.Dec.{eqb, ltb, leb, leb·suc-suc}
 use borrow.Author.Tests.{ltb-true, ltb-false, lt-ltb, le-ltb, eq-eqb, ne-eqb, eqb-true, eqb-false, leb-true, leb-false}
-use Rattle.address.specs.Tells.{tells-same, tells-both}
+use Rattle.laws.specs.TellsLaws.{tells-same, tells-both}
 use Rattle.model.specs.declared.Region.{Region}
 use Rattle.model.specs.declared.Mapping.{Mapping}
 use Rattle.model.specs.declared.Found.the-variants.{At, Nothing}
 use Rattle.model.specs.declared.Translated.{Translated}
 use Rattle.model.specs.declared.Translated.the-variants.{Mapped, NotMapped}
-use Rattle.model.specs.Lists.{keep}
+use Rattle.laws.specs.Lists.{keep}
 use Rattle.model.specs.Machine.{noMapping}
-use Rattle.model.specs.Tests.{Pairs, tells-eq, tells-le, tells-lt, tells-as}
+use Rattle.laws.specs.TestLaws.{tells-eq, tells-le, tells-lt, tells-as}
 use Rattle.model.specs.Lookup.{count, spanEnd}
 use Rattle.model.specs.Paging.{pageStart, mapping, mapsIn, translate, mapPage, unmapPage, remapWhere}
-use Rattle.model.specs.MappedLaws.{below, below-most}
+use Rattle.model.specs.MappedBelowLaws.{below, below-most}
 use Rattle.paging.specs.Place.{pageAt, middle, halve, place, standsAt, rowFor, mappedAt, translateBy}
 use Rattle.paging.specs.Mapper.{firstPage, endPage}
 use Rattle.paging.specs.PlaceLaws.{middle-from, middle-under, halve-empty, halve-up, halve-down}
-
--- page order
-abbrev pub Rising : List Mapping → Type 0
-Rising l = Pairs noMapping l (λ x. Unit {0}) (λ x y. x .page .0 < y .page .0)
+use Rattle.paging.specs.Order.{Rising}
 
 -- no page below n
 abbrev pub From : ℕ → List Mapping → Type 0

@@ -6,10 +6,10 @@ use native.Mathlib.Omega.{arith}
 use lib.ListN.{length, set, take, drop, replicate, length-append, length-take, length-drop, length-set, length-replicate, replicate-append-replicate}
 use lib.Seq.{slice, take-append-le, drop-append-add, drop-at, take-at, set-append-left}
 use Rattle.model.specs.declared.Mapping.{Mapping}
-use Rattle.model.specs.Lists.{pad}
-use Rattle.model.specs.Tests.{Rows}
+use Rattle.laws.specs.Lists.{pad}
+use Rattle.laws.specs.Tests.{Rows}
 use Rattle.model.specs.Machine.{noMapping}
-use Rattle.paging.specs.Rows.{putRows, rowPut, rowsTaken}
+use Rattle.paging.specs.ProcessRows.{putRows, rowPut, rowsTaken}
 
 abbrev free : ℕ → List Mapping
 free n = replicate n noMapping

@@ -10,7 +10,7 @@ use Rattle.model.specs.declared.Region.{Region}
 use Rattle.model.specs.declared.Mapping.{Mapping}
 use Rattle.model.specs.declared.Translated.{Translated}
 use Rattle.model.specs.declared.Translated.the-variants.{Mapped, NotMapped}
-use Rattle.model.specs.Lists.{keep}
+use Rattle.laws.specs.Lists.{keep}
 use Rattle.model.specs.Lookup.{contains}
 use Rattle.model.specs.Paging.{pageStart, mapsIn, translate, mapPage, unmapPage, remapWhere}
 use Rattle.paging.specs.Mapper.{reflag}

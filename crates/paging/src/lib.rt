@@ -1,4 +1,4 @@
 // A process's page table in the flat model: its mapped pages in page order, in place on the machine's lent words.
 pub mod mapper;
-pub mod rows;
+pub mod mappings;
 pub mod search;

@@ -5,13 +5,13 @@ ghost use lib.ListN.{length, getD};
 ghost use Rattle.model.specs.Layout.{wordCount, machine};
 ghost use Rattle.model.specs.Machine.{noMapping, mappedOf};
 ghost use Rattle.paging.specs.Place.{place, standsAt, rowFor, translateBy};
-ghost use Rattle.paging.specs.Rows.{rowsOf};
+ghost use Rattle.paging.specs.ProcessRows.{rowsOf};
 use address::Page;
 use model::Found;
 use model::Mapping;
 use model::Translated;
-use tables::pages::mapping_at;
-use tables::processes::process_at;
+use rows::pages::mapping_at;
+use rows::processes::process_at;
 
 // How many pages of a process are mapped.
 pub fn mapped_count(words: &[u64], process: usize) -> usize

@@ -1,8 +1,11 @@
--- What the crate is proved by: covering a range, the list of starts, a region more in the list and a slot less.
-pub mod Lists
-pub mod Slot
+-- What the crate is stated and proved by: looking, covering a range, the list of starts, a region more in the list and a slot less.
+pub mod LookLaws
+pub mod SlotPastLaws
 pub mod Cover
-pub mod Listing
+pub mod CoverLaws
+pub mod ListingLaws
 pub mod Added
-pub mod Kept
-pub mod Room
+pub mod AddedLaws
+pub mod Detached
+pub mod DetachedLaws
+pub mod RoomLaws

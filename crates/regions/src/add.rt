@@ -5,11 +5,11 @@ ghost use lib.ListN.{length};
 ghost use Rattle.model.specs.Layout.{wordCount, machine};
 ghost use Rattle.model.specs.Machine.{processAt};
 ghost use Rattle.regions.specs.Added.{withAdded};
-use crate::process::put_attached;
+use crate::counts::put_attached;
 use model::Region;
-use tables::processes::process_at;
-use tables::regions::put_order;
-use tables::regions::put_region;
+use rows::processes::process_at;
+use rows::slots::put_order;
+use rows::slots::put_region;
 
 // Puts a region into a slot and the slot last in list order.
 pub fn add_region(words: &mut [u64], process: usize, slot: usize, region: Region)

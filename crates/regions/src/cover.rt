@@ -7,10 +7,10 @@ ghost use Rattle.model.specs.Lookup.{covered};
 ghost use Rattle.regions.specs.Cover.{endWithin, coveredUntil};
 use crate::slot::region_in;
 use address::VirtAddr;
+use lookup::attached::attached_count;
+use lookup::attached::region_for;
 use model::Found;
 use model::Region;
-use tables::attached::attached_count;
-use tables::attached::region_for;
 
 // The end of a region, or the range's end where that is lower: the region's may be no u64.
 fn end_within(region: Region, end: u64) -> u64

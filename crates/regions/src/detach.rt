@@ -4,15 +4,15 @@ ghost use mathlib.Core.List.{[], _∷_};
 ghost use Prim.Native.Nat.{_+_, _-_, _*_, _<_, _≤_};
 ghost use lib.ListN.{length, getD, replicate};
 ghost use lib.Seq.{sets};
-ghost use Rattle.model.specs.Lists.{keep};
+ghost use Rattle.laws.specs.Lists.{keep};
 ghost use Rattle.model.specs.Layout.{wordCount, machine};
 ghost use Rattle.model.specs.Machine.{orderOf, withOrder};
-ghost use Rattle.tables.specs.With.{withOrderTable};
-ghost use Rattle.regions.specs.Kept.{other};
-use crate::process::put_attached;
-use tables::attached::attached_count;
-use tables::regions::order_at;
-use tables::regions::put_order;
+ghost use Rattle.rows.specs.With.{withOrderTable};
+ghost use Rattle.regions.specs.Detached.{other};
+use crate::counts::put_attached;
+use lookup::attached::attached_count;
+use rows::slots::order_at;
+use rows::slots::put_order;
 
 // Moves a place's slot down to place `kept` unless it is the one to leave; how many are kept then.
 fn keep_place(words: &mut [u64], process: usize, place: usize, kept: usize, slot: usize) -> usize

@@ -7,10 +7,10 @@ ghost use Rattle.model.specs.Machine.{orderOf, regionAt};
 ghost use Rattle.model.specs.Lookup.{startsOf};
 ghost use Rattle.model.specs.Answers.{listing};
 use crate::slot::region_in;
+use lookup::attached::attached_count;
 use model::Done;
 use model::Listed;
-use tables::attached::attached_count;
-use tables::regions::order_at;
+use rows::slots::order_at;
 
 // The start of the region at a place of list order.
 fn start_at(words: &[u64], process: usize, place: usize) -> u64

@@ -8,7 +8,7 @@ use address::PageTableFlags;
 use address::PhysFrame;
 use address::VirtAddr;
 use model::Region;
-use tables::regions::region_at;
+use rows::slots::region_at;
 
 // A free slot's row.
 pub fn no_region() -> Region

@@ -1,5 +1,6 @@
 -- The definitions of the program, and what its proofs cite.
-pub mod Few
-pub mod Full
-pub mod Show
+pub mod FewLaws
+pub mod FullLaws
+pub mod ShowLaws
 pub mod Session
+pub mod SessionLaws

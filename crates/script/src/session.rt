@@ -1,16 +1,15 @@
 // A run of a script: its manager, its machine, the line that is being read, and the answers that are not yet written.
-ghost use mathlib.Core.Path.{_≡_};
 ghost use Prim.Native.Nat.{ℕ, _≤_};
 ghost use lib.ListN.{length};
 ghost use Rattle.script.specs.Session.{Kept, Keeps};
 use crate::output::Output;
 use crate::show::put_said;
-use steps::asked::Asked;
-use steps::asked::LoneCall;
-use steps::asked::whose;
-use steps::lone::Lone;
-use steps::machine::Machine;
-use steps::machine::step;
+use script_step::asked::Asked;
+use script_step::asked::LoneCall;
+use script_step::asked::whose;
+use script_step::lone::Lone;
+use script_step::machine::Machine;
+use script_step::machine::step;
 use text::Held;
 
 pub struct Session {

@@ -6,11 +6,11 @@ ghost use lib.ListN.{length};
 ghost use Rattle.state_text.specs.Left.{left};
 use crate::output::Output;
 use answer_text::Answer;
+use script_step::said::Said;
 use segments::Listed;
 use segments::Segment;
 use segments::VirtualMemoryManager;
 use state_text::Cursor;
-use steps::said::Said;
 
 // How far the answers reach, and what of the machine is left to show.
 pub struct Showing {

@@ -1,18 +1,37 @@
--- Laws of a segment's form, order and overlap, one for each way through the code that tests them.
-use mathlib.Core.Path.{_≡_, refl, ap, sym, subst, _∙_}
+-- Laws of `Form`: a segment by itself: its form, its place in list order, and what it overlaps.
+use mathlib.Core.Path.{_≡_, refl, ap, sym, _∙_}
 use mathlib.Core.Logic.{_⊎_, inl, inr, ⊎-elim}
-use mathlib.Core.Bool.{Bool, true, false, not, _&&_, _||_, cond}
-use Prim.Native.Nat.{ℕ, zero, suc, _+_, _-_, _^_, _≤_, _<_}
-use native.Mathlib.Omega.{arith}
+use mathlib.Core.Bool.{Bool, true, false, not, _||_, cond}
+use Prim.Native.Nat.{ℕ, _-_, _^_, _≤_, _<_}
 use lib.Dec.{eqb, ltb, leb}
-use borrow.Author.Tests.{eqb-true, eqb-false, ltb-true, ltb-false, leb-true, leb-false, eq-eqb, ne-eqb, lt-ltb, le-ltb, le-leb, lt-leb}
 use Rattle.answers.specs.declared.Refusal.the-variants.{BadAddress, BadRange}
 use Rattle.address.specs.Canonical.{canonical}
-use Rattle.address.specs.Tells.{Tells, tells-of, told, not-told, tells-same, tells-both}
 use Rattle.segment.specs.declared.Segment.{Segment}
 use Rattle.segment.specs.declared.Answered.{Answered}
 use Rattle.segment.specs.declared.Answered.the-variants.{Done, Refused}
-use Rattle.segment.specs.Form.{startOf, lastOf, emptyb, inHalf, formOf, done, sameb, beforeb, overb, Same, Before, Over}
+use Rattle.segment.specs.Form.{startOf, lastOf, inHalf, formOf, sameb, beforeb, overb}
+use native.Mathlib.Omega.{arith}
+use borrow.Author.Tests.{eqb-true, eqb-false, ltb-true, ltb-false, leb-true, eq-eqb, ne-eqb, lt-ltb, le-ltb, le-leb}
+use Rattle.laws.specs.Tells.{Tells}
+use Rattle.laws.specs.TellsLaws.{tells-of, told, not-told, tells-same, tells-both}
+
+-- whether an answer is no refusal
+abbrev pub done : Answered → Bool
+done Done = true
+done (Refused r) = false
+
+-- the same three as propositions
+pub record Same (a b : Segment) : Type 0 where
+  pub starts : startOf a ≡ startOf b
+  pub lens : a .len ≡ b .len
+
+abbrev pub Before : Segment → Segment → Type 0
+Before a b = (startOf a < startOf b) ⊎ ((startOf a ≡ startOf b) × (a .len < b .len))
+
+pub record Over (s : Segment) (first last : ℕ) : Type 0 where
+  pub some : s .len ≡ 0 → ⊥
+  pub reaches : first ≤ lastOf s
+  pub begins : startOf s ≤ last
 
 -- ---- tests as propositions
 

@@ -1,24 +1,24 @@
 -- The calls, one law for each way through their code.
-use mathlib.Core.Path.{_≡_, refl, ap, sym, subst, _∙_}
-use mathlib.Core.Bool.{Bool, true, false, not, _&&_, _||_, cond}
-use mathlib.Core.List.{List, [], _∷_, _++_}
-use Prim.Native.Nat.{ℕ, zero, suc, _+_, _-_, _*_, _^_, _≤_, _<_}
+use mathlib.Core.Path.{_≡_, ap, sym, subst, _∙_}
+use mathlib.Core.Bool.{Bool, true, false, cond}
+use mathlib.Core.List.{List, _++_}
+use Prim.Native.Nat.{ℕ, suc, _+_, _-_, _^_, _≤_, _<_}
 use native.Mathlib.Omega.{arith}
-use lib.Dec.{eqb, ltb, leb}
+use lib.Dec.{ltb}
 use lib.ListN.{length, replicate}
-use borrow.Author.Tests.{eq-eqb, ne-eqb, lt-ltb, le-ltb, le-leb, lt-leb, leb-true}
+use borrow.Author.Tests.{eq-eqb, ne-eqb, lt-ltb, le-ltb, le-leb, lt-leb}
 use Rattle.answers.specs.declared.Refusal.{Refusal}
 use Rattle.answers.specs.declared.Refusal.the-variants.{BadTable, BadAddress, NoSpace, SegmentReserved, InvalidSplitPoint, NotReserved, TableFull}
 use Rattle.address.specs.declared.VirtAddr.{VirtAddr}
 use Rattle.address.specs.Canonical.{canonical}
-use Rattle.address.specs.Paging.{aligned}
+use Rattle.address.specs.Pages.{aligned}
 use Rattle.segment.specs.declared.Segment.{Segment}
 use Rattle.segment.specs.declared.Answered.{Answered}
 use Rattle.segment.specs.declared.Answered.the-variants.{Done, Refused}
-use Rattle.search.specs.declared.Found.{Found}
-use Rattle.search.specs.declared.Found.the-variants.{In, Nothing}
-use Rattle.search.specs.declared.Search.{Search}
-use Rattle.search.specs.declared.Search.the-variants.{Free, Full}
+use Rattle.segment_search.specs.declared.Found.{Found}
+use Rattle.segment_search.specs.declared.Found.the-variants.{In, Nothing}
+use Rattle.segment_search.specs.declared.Search.{Search}
+use Rattle.segment_search.specs.declared.Search.the-variants.{Free, Full}
 use Rattle.segments.specs.declared.table.VirtualMemoryManager.{VirtualMemoryManager}
 use Rattle.segments.specs.declared.table.Place.{Place}
 use Rattle.segments.specs.declared.table.Place.the-variants as place
@@ -26,21 +26,21 @@ use Rattle.segments.specs.declared.manager.Reserved.the-variants as rese
 use Rattle.segments.specs.declared.manager.Released.the-variants as released
 use Rattle.segments.specs.declared.manager.SplitInto.the-variants as split
 use Rattle.segments.specs.declared.manager.Listed.the-variants as listed
-use Rattle.segments.specs.declared.manager.NewAnswer.{NewAnswer}
-use Rattle.segment.specs.Form.{startOf, lastOf, emptyb, formOf, done}
-use Rattle.segment.specs.FormLaws.{form-last}
-use Rattle.segments.specs.Table.{held, arena, stored, soundb, walk, insert, remove, removedAt, heldb, placeOf, noSegment, noReach, empty}
-use Rattle.search.specs.Search.{firstOver, ahead, search}
-use Rattle.search.specs.Words.{tableOf}
-use Rattle.search.specs.WordsLaws.{table-length}
+use Rattle.segment.specs.Form.{startOf, lastOf, formOf}
+use Rattle.segment.specs.FormLaws.{done, form-last}
+use Rattle.segments.specs.Table.{held, arena, stored, soundb, insert, removedAt, placeOf, noSegment, empty}
+use Rattle.segments.specs.TableLaws.{remove, heldb}
+use Rattle.segment_search.specs.Search.{firstOver, ahead, search}
+use Rattle.segment_search.specs.SegmentWords.{tableOf}
+use Rattle.segment_search.specs.SegmentWordsLaws.{table-length}
 use Rattle.segments.specs.RuleLaws.{sound-tells}
-use Rattle.search.specs.Tries.{by-test, ahead-le}
-use Rattle.segments.specs.PlaceLaws.{place-stands, place-absent, held-stored, stored-stored}
+use Rattle.segment_search.specs.TriesLaws.{by-test, ahead-le}
+use Rattle.segments.specs.PositionLaws.{place-stands, place-absent, held-stored, stored-stored}
 use Rattle.segments.specs.ShiftLaws.{removed-length}
 use Rattle.segments.specs.InsertLaws.{length-insert}
 use Rattle.segments.specs.LoopLaws.{held-length}
-use Rattle.segments.specs.CallWays.{point-done}
-use Rattle.segments.specs.CallTests.{Inside, inside-tells}
+use Rattle.segments.specs.CallWayLaws.{point-done}
+use Rattle.segments.specs.CallTestLaws.{Inside, inside-tells}
 use Rattle.segments.specs.Calls.{segment, newCall, lowest, reserveCall, checkedBy, overlapsb, markCall, releaseCall, insideb, splitPoint, low, high, splitCall, listCall}
 
 -- ---- what a sound manager's tests say

@@ -1,30 +1,24 @@
 -- The calls of a lone manager: what each answers and the manager that it leaves.
-use mathlib.Core.Path.{_≡_}
 use mathlib.Core.Bool.{Bool, true, false, not, _&&_, _||_, cond}
-use mathlib.Core.List.{List, [], _∷_, _++_}
+use mathlib.Core.List.{List, _++_}
 use Prim.Native.Nat.{ℕ, _+_, _-_}
 use lib.Dec.{eqb, ltb, leb}
 use lib.ListN.{replicate}
-use Rattle.answers.specs.declared.Refusal.{Refusal}
 use Rattle.answers.specs.declared.Refusal.the-variants.{BadTable, BadAddress, NoSpace, SegmentReserved, InvalidSplitPoint, NotReserved, TableFull}
 use Rattle.address.specs.declared.VirtAddr.{VirtAddr}
 use Rattle.address.specs.Canonical.{canonical}
-use Rattle.address.specs.Paging.{aligned}
+use Rattle.address.specs.Pages.{aligned}
 use Rattle.segment.specs.declared.Segment.{Segment}
 use Rattle.segment.specs.declared.Answered.{Answered}
 use Rattle.segment.specs.declared.Answered.the-variants.{Done, Refused}
-use Rattle.search.specs.declared.Found.{Found}
-use Rattle.search.specs.declared.Found.the-variants as found
-use Rattle.search.specs.declared.Search.{Search}
-use Rattle.search.specs.declared.Search.the-variants.{Free, Full}
+use Rattle.segment_search.specs.declared.Found.{Found}
+use Rattle.segment_search.specs.declared.Found.the-variants as found
+use Rattle.segment_search.specs.declared.Search.{Search}
+use Rattle.segment_search.specs.declared.Search.the-variants.{Free, Full}
 use Rattle.segments.specs.declared.table.VirtualMemoryManager.{VirtualMemoryManager}
-use Rattle.segments.specs.declared.manager.Reserved.{Reserved}
 use Rattle.segments.specs.declared.manager.Reserved.the-variants as reserved
-use Rattle.segments.specs.declared.manager.Released.{Released}
 use Rattle.segments.specs.declared.manager.Released.the-variants as released
-use Rattle.segments.specs.declared.manager.SplitInto.{SplitInto}
 use Rattle.segments.specs.declared.manager.SplitInto.the-variants as split
-use Rattle.segments.specs.declared.manager.Listed.{Listed}
 use Rattle.segments.specs.declared.manager.Listed.the-variants as listed
 use Rattle.segments.specs.declared.manager.NewAnswer.{NewAnswer}
 use Rattle.segments.specs.declared.manager.ReserveAnswer.{ReserveAnswer}
@@ -33,8 +27,9 @@ use Rattle.segments.specs.declared.manager.ReleaseAnswer.{ReleaseAnswer}
 use Rattle.segments.specs.declared.manager.SplitAnswer.{SplitAnswer}
 use Rattle.segments.specs.declared.manager.ListAnswer.{ListAnswer}
 use Rattle.segment.specs.Form.{startOf, lastOf, emptyb, formOf}
-use Rattle.segments.specs.Table.{held, arena, stored, soundb, insert, remove, heldb, noSegment, empty}
-use Rattle.search.specs.Search.{firstOver, search}
+use Rattle.segments.specs.Table.{held, arena, stored, soundb, insert, noSegment, empty}
+use Rattle.segments.specs.TableLaws.{remove, heldb}
+use Rattle.segment_search.specs.Search.{firstOver, search}
 
 abbrev pub segment : ℕ → ℕ → Segment
 segment start len = record { start = record { 0 = start }; len = len }

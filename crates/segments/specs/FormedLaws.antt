@@ -7,12 +7,13 @@ use native.Mathlib.Omega.{arith}
 use lib.Dec.{ltb}
 use borrow.Author.Tests.{ltb-true, ltb-false}
 use Rattle.address.specs.Canonical.{canonical}
-use Rattle.address.specs.Tells.{Tells, tells-both, told}
+use Rattle.laws.specs.Tells.{Tells}
+use Rattle.laws.specs.TellsLaws.{tells-both, told}
 use Rattle.segment.specs.declared.Segment.{Segment}
-use Rattle.segment.specs.Form.{startOf, lastOf, emptyb, inHalf, formOf, done}
-use Rattle.segments.specs.Table.{Formed}
-use Rattle.segment.specs.FormLaws.{eqb-tells, ltb-tells, leb-tells, either-tells, tells-as}
-use Rattle.search.specs.Tries.{by-test}
+use Rattle.segment.specs.Form.{startOf, lastOf, emptyb, inHalf, formOf}
+use Rattle.segment.specs.FormLaws.{done, eqb-tells, ltb-tells, leb-tells, either-tells, tells-as}
+use Rattle.segments.specs.TableLaws.{Formed}
+use Rattle.segment_search.specs.TriesLaws.{by-test}
 use Rattle.segments.specs.RuleLaws.{formed-tells}
 
 -- document 01, "Segments": "An arena or non-empty segment must lie in one canonical half, last byte included, and may end at 2^64 - 1";

@@ -12,24 +12,25 @@ use borrow.Author.Tests.{ltb-true, ltb-false, eqb-true, eqb-false}
 use Rattle.address.specs.declared.VirtAddr.{VirtAddr}
 use Rattle.address.specs.Canonical.{canonical}
 use Rattle.segment.specs.declared.Segment.{Segment}
-use Rattle.search.specs.declared.Found.{Found}
-use Rattle.search.specs.declared.Found.the-variants.{In, Nothing}
+use Rattle.segment_search.specs.declared.Found.{Found}
+use Rattle.segment_search.specs.declared.Found.the-variants.{In, Nothing}
 use Rattle.segments.specs.declared.table.VirtualMemoryManager.{VirtualMemoryManager}
-use Rattle.segment.specs.Form.{startOf, lastOf, emptyb, formOf, sameb, Same, Over}
-use Rattle.segments.specs.Table.{held, arena, stored, All, Pairs, Formed, Apart, Rule, noSegment, insert, remove, heldb, empty}
-use Rattle.search.specs.Search.{firstOver}
+use Rattle.segment.specs.Form.{startOf, lastOf, emptyb, formOf, sameb}
+use Rattle.segment.specs.FormLaws.{Same, Over, same-tells}
+use Rattle.segments.specs.Table.{held, arena, stored, noSegment, insert, empty}
+use Rattle.segments.specs.TableLaws.{All, Pairs, Formed, Apart, Rule, remove, heldb}
+use Rattle.segment_search.specs.Search.{firstOver}
 use Rattle.segments.specs.Calls.{segment, newCall, reserveCall, isIn, overlapsb, markCall, releaseCall, low, high, splitCall}
-use Rattle.segment.specs.FormLaws.{same-tells}
-use Rattle.search.specs.Tries.{by-test}
+use Rattle.segment_search.specs.TriesLaws.{by-test}
 use Rattle.segments.specs.RuleLaws.{all-map}
 use Rattle.segments.specs.FreeStart.{FreeStart}
-use Rattle.segments.specs.LowestTries.{none-over}
+use Rattle.segments.specs.LowestTryLaws.{none-over}
 use Rattle.segments.specs.LowestLaws.{free-lowest}
 use Rattle.segments.specs.InsertLaws.{Beside, part-beside, all-insert, pairs-insert, length-insert, all-remove, pairs-remove, length-remove, remove-beside}
 use Rattle.segments.specs.FormedLaws.{Part, part-formed}
 use Rattle.segments.specs.Run.{Call, run}
 use Rattle.segments.specs.Run.Call.{new, reserve, mark, release, split, list}
-use Rattle.segments.specs.CallWays.{Reserves, Splits, new-ways, reserve-ways, mark-ways, release-ways, split-ways}
+use Rattle.segments.specs.CallWayLaws.{Reserves, Splits, new-ways, reserve-ways, mark-ways, release-ways, split-ways}
 
 -- ---- a table that is kept
 

@@ -5,17 +5,18 @@ use Prim.Native.Nat.{ℕ, suc, _+_, _-_, _≤_, _<_}
 use native.Mathlib.Omega.{arith}
 use lib.Dec.{eqb, ltb}
 use borrow.Author.Tests.{ltb-true, ltb-false, eqb-true, eqb-false, lt-ltb, le-ltb, eq-eqb, ne-eqb}
-use Rattle.search.specs.declared.Search.{Search}
-use Rattle.search.specs.declared.Search.the-variants.{Free, Full}
+use Rattle.segment_search.specs.declared.Search.{Search}
+use Rattle.segment_search.specs.declared.Search.the-variants.{Free, Full}
 use Rattle.segments.specs.declared.table.VirtualMemoryManager.{VirtualMemoryManager}
 use Rattle.segment.specs.Form.{startOf, lastOf}
-use Rattle.segments.specs.Table.{held, arena, Rule}
-use Rattle.search.specs.Search.{count, ahead, search}
+use Rattle.segments.specs.Table.{held, arena}
+use Rattle.segments.specs.TableLaws.{Rule}
+use Rattle.segment_search.specs.Search.{count, ahead, search}
 use Rattle.segments.specs.Calls.{lowest}
-use Rattle.search.specs.Tries.{by-test}
+use Rattle.segment_search.specs.TriesLaws.{by-test}
 use Rattle.segments.specs.FreeStart.{FreeStart, LowestStart, passedb}
-use Rattle.segments.specs.LowestTries.{Right, tries-right}
-use Rattle.segments.specs.RestartTries.{restarts-passed}
+use Rattle.segments.specs.LowestTryLaws.{Right, tries-right}
+use Rattle.segments.specs.RestartTryLaws.{restarts-passed}
 
 module _ (m : VirtualMemoryManager) (len : ℕ) where
   lowest-search : (len ≡ 0 → ⊥) → len ≤ m .«mem_size» → lowest m len ≡ search (held m) (lastOf (arena m)) len (startOf (arena m)) 0

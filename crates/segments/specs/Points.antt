@@ -5,10 +5,11 @@ use mathlib.Core.List.{List, [], _∷_, _++_}
 use Prim.Native.Nat.{ℕ, _^_}
 use Rattle.address.specs.Canonical.{canonical}
 use Rattle.segment.specs.Form.{formOf, inHalf}
-use Rattle.segments.specs.Table.{insert, remove, heldb, soundb, walk}
-use Rattle.search.specs.Search.{firstOver, count, tries, search}
+use Rattle.segments.specs.Table.{insert, soundb, walk}
+use Rattle.segments.specs.TableLaws.{remove, heldb}
+use Rattle.segment_search.specs.Search.{firstOver, count, tries, search}
 use Rattle.segments.specs.Calls.{newCall, reserveCall, markCall, releaseCall, splitCall, listCall, checkedBy, splitPoint, insideb, overlapsb, lowest}
-use Rattle.segments.specs.Rows.{Step, Row, allHold}
+use Rattle.segments.specs.PointForm.{Step, Row, allHold}
 use Rattle.segments.specs.Run.{Call, run, table, nothing}
 use Rattle.segments.specs.Run.Call.{new, reserve, mark, split}
 

@@ -13,7 +13,7 @@ use Rattle.segments.specs.declared.manager.Released.the-variants as rele
 use Rattle.segments.specs.declared.manager.SplitInto.the-variants as split
 use Rattle.segments.specs.Table.{empty}
 use Rattle.segments.specs.Calls.{segment, newCall, reserveCall, markCall, releaseCall, splitCall}
-use Rattle.segments.specs.CallWays.{new-ways, reserve-ways, mark-ways, release-ways, split-ways}
+use Rattle.segments.specs.CallWayLaws.{new-ways, reserve-ways, mark-ways, release-ways, split-ways}
 
 pub new-refused : (why : Refusal) (start : VirtAddr) (size : ℕ) → newCall start size .answer ≡ answered.Refused why → newCall start size .manager ≡ empty (record { 0 = 0 }) 0
 new-refused why start size e = ⊎-elim (λ w. ap (λ a. a .manager) (w .1)) (λ w. absurd (never (sym (ap (λ a. a .answer) (w .1)) ∙ e))) (new-ways start size)

@@ -5,16 +5,18 @@ use mathlib.Core.Bool.{Bool, true, false, not}
 use mathlib.Core.List.{List, [], _∷_}
 use Prim.Native.Nat.{_≤_, _<_}
 use native.Mathlib.Omega.{arith}
-use Rattle.address.specs.Tells.{Tells, tells-of, tells-both}
+use Rattle.laws.specs.Tells.{Tells}
+use Rattle.laws.specs.TellsLaws.{tells-of, tells-both}
 use Rattle.segment.specs.declared.Segment.{Segment}
 use Rattle.segment.specs.declared.Answered.{Answered}
 use Rattle.segment.specs.declared.Answered.the-variants.{Done, Refused}
 use Rattle.segments.specs.declared.table.VirtualMemoryManager.{VirtualMemoryManager}
 use Rattle.segments.specs.declared.table.Reach.{Reach}
-use Rattle.segment.specs.Form.{startOf, lastOf, emptyb, formOf, done, Before}
-use Rattle.segments.specs.Table.{held, arena, All, Pairs, Formed, Apart, Rule, reachWith, inOrder, followsb, walk, noSegment, noReach, soundb}
-use Rattle.segment.specs.FormLaws.{eqb-tells, ltb-tells, leb-tells, either-tells, tells-as, before-tells}
-use Rattle.search.specs.Tries.{by-test}
+use Rattle.segment.specs.Form.{startOf, lastOf, emptyb, formOf}
+use Rattle.segment.specs.FormLaws.{done, Before, eqb-tells, ltb-tells, leb-tells, either-tells, tells-as, before-tells}
+use Rattle.segments.specs.Table.{held, arena, reachWith, inOrder, followsb, walk, noSegment, noReach, soundb}
+use Rattle.segments.specs.TableLaws.{All, Pairs, Formed, Apart, Rule}
+use Rattle.segment_search.specs.TriesLaws.{by-test}
 
 -- ---- all rows of a list
 

@@ -7,7 +7,7 @@ use Rattle.segment.specs.Form.{startOf}
 use Rattle.segments.specs.Table.{held, empty}
 use Rattle.segments.specs.Calls.{segment, newCall, reserveCall, markCall, releaseCall, splitCall, listCall}
 use Rattle.segments.specs.Answers.{answeredValues, reservedValues, releasedValues, splitValues, listedValues}
-use Rattle.segments.specs.Rows.{Ran}
+use Rattle.segments.specs.PointForm.{Ran}
 
 -- a call of a lone manager; a segment is its start and length
 pub data Call : Type 0 where

@@ -8,12 +8,12 @@ use crate::table::Place;
 use crate::table::VirtualMemoryManager;
 use address::VirtAddr;
 use answers::Refusal;
-use search::Found;
-use search::Search;
-use search::find_overlapping_at;
-use search::lowest_start;
 use segment::Answered;
 use segment::Segment;
+use segment_search::Found;
+use segment_search::Search;
+use segment_search::find_overlapping_at;
+use segment_search::lowest_start;
 
 // The segment reserved, and how often the search started over.
 pub enum Reserved {

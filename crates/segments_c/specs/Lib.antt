@@ -1,4 +1,4 @@
 -- What the exported calls do to lent words.
-pub mod Lent
-pub mod LentLaws
-pub mod WordsLaws
+pub mod LentManager
+pub mod LentManagerLaws
+pub mod ManagerWordsLaws

@@ -3,7 +3,7 @@
 // `out`. A refusal leaves the manager's words as they were; so does a slice of another length, whose answer is 1, BadTable.
 ghost use mathlib.Core.Path.{_≡_};
 ghost use mathlib.Core.List.{[]};
-ghost use Rattle.segments_c.specs.Lent.{lent, newOn, markOn, reserveOn, releaseOn, splitOn};
+ghost use Rattle.segments_c.specs.LentManager.{lent, newOn, markOn, reserveOn, releaseOn, splitOn};
 
 mod words;
 

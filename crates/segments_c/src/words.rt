@@ -2,8 +2,8 @@
 ghost use mathlib.Core.Path.{_≡_};
 ghost use mathlib.Core.List.{[], _∷_};
 ghost use lib.ListN.{length};
-ghost use Rattle.search.specs.Words.{tableOf};
-ghost use Rattle.segments_c.specs.Lent.{managerOf, wordsOf};
+ghost use Rattle.segment_search.specs.SegmentWords.{tableOf};
+ghost use Rattle.segments_c.specs.LentManager.{managerOf, wordsOf};
 use address::VirtAddr;
 use segments::Segment;
 use segments::VirtualMemoryManager;

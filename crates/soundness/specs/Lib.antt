@@ -1,4 +1,4 @@
 -- The soundness test on lent memory, and its stages.
-pub mod Lent
+pub mod SoundLent
 pub mod Stages
 pub mod StageLaws

@@ -6,20 +6,23 @@ use Prim.Native.Nat.{ℕ, _≤_}
 use lib.ListN.{length}
 use lib.Dec.{eqb, leb}
 use borrow.Author.Tests.{eq-eqb, ne-eqb, leb-true}
-use Rattle.address.specs.Tells.{Tells, tells-of, tells-same, tells-both}
+use Rattle.laws.specs.Tells.{Tells}
+use Rattle.laws.specs.TellsLaws.{tells-of, tells-same, tells-both}
 use Rattle.model.specs.Machine.{Machine, State, noRegion, noEntry}
 use Rattle.model.specs.Layout.{wordCount, machine}
 use Rattle.model.specs.Sound.{holds}
-use Rattle.model.specs.Tests.{allRows, allPairs, tells-bool, tells-as, tells-rows}
+use Rattle.laws.specs.Tests.{allRows, allPairs}
+use Rattle.laws.specs.TestLaws.{tells-bool, tells-as, tells-rows}
 use Rattle.model.specs.SoundTest.{eachProcess, r1b, r2b, r3b, r4b, r5b, r6b, soundb, sizedb, fileFits, processFits, orderedb, pagedb, regionFits, entryFits, otherPage, alike}
 use Rattle.model.specs.SoundLaws.{tells-processes, r1-tells}
 use Rattle.model.specs.RecordLaws.{ordered-tells, paged-tells, region-tells, entry-tells, onceAPage-tells}
-use Rattle.tables.specs.Lent.{stateOf}
-use Rattle.fits.specs.Sizes.{sizesFit, fileFitsIn, sized-is, files-fit-is}
-use Rattle.fits.specs.Steps.{fails, passes}
-use Rattle.holds.specs.OnePage.{HoldersFit}
-use Rattle.homes.specs.Laid.{Laid}
-use Rattle.soundness.specs.Lent.{soundLent}
+use Rattle.rows.specs.LentMemory.{stateOf}
+use Rattle.sound_rows.specs.Sizes.{sizesFit, fileFitsIn}
+use Rattle.sound_rows.specs.SizesLaws.{sized-is, files-fit-is}
+use Rattle.laws.specs.TestChainLaws.{fails, passes}
+use Rattle.sound_frames.specs.OnePage.{HoldersFit}
+use Rattle.sound_pages.specs.Laid.{Laid}
+use Rattle.soundness.specs.SoundLent.{soundLent}
 use Rattle.soundness.specs.Stages.{recordsFit, listsFit, framesFit}
 
 module _ (w f b : List ℕ) where

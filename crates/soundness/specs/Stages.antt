@@ -4,9 +4,9 @@ use Prim.Native.Nat.{ℕ}
 use lib.Dec.{eqb}
 use Rattle.model.specs.Machine.{Machine}
 use Rattle.model.specs.Sound.{holds}
-use Rattle.model.specs.Tests.{allRows, allPairs}
+use Rattle.laws.specs.Tests.{allRows, allPairs}
 use Rattle.model.specs.SoundTest.{eachProcess, r1b, r2b, r3b, processFits, orderedb, pagedb, regionFits, entryFits, otherPage, alike}
-use Rattle.fits.specs.Sizes.{sizesFit, fileFitsIn}
+use Rattle.sound_rows.specs.Sizes.{sizesFit, fileFitsIn}
 
 -- counts, the lengths of the frames' and files' bytes, and every row's limits
 unfoldable pub recordsFit : Machine → ℕ → ℕ → Bool

@@ -4,22 +4,22 @@ ghost use mathlib.Core.Path.{_≡_};
 ghost use Prim.Native.Nat.{_≤_};
 ghost use lib.ListN.{length};
 ghost use Rattle.model.specs.Layout.{wordCount, machine};
-ghost use Rattle.soundness.specs.Lent.{soundLent};
+ghost use Rattle.soundness.specs.SoundLent.{soundLent};
 ghost use Rattle.soundness.specs.Stages.{recordsFit, listsFit, framesFit};
-ghost use Rattle.holds.specs.OnePage.{HoldersFit};
-use fits::apart::disjoint;
-use fits::entries::entries_fit;
-use fits::lists::ordered;
-use fits::pages::paged;
-use fits::processes::processes_fit;
-use fits::regions::regions_fit;
-use fits::sizes::files_fit;
-use fits::sizes::sized;
-use holds::backings::backings_fit;
-use holds::holders::counted;
-use holds::onepage::one_page;
-use homes::mapped::mapped_fit;
-use homes::once::once_a_page;
+ghost use Rattle.sound_frames.specs.OnePage.{HoldersFit};
+use sound_frames::backings::backings_fit;
+use sound_frames::holders::counted;
+use sound_frames::onepage::one_page;
+use sound_lists::apart::disjoint;
+use sound_lists::lists::ordered;
+use sound_lists::pages::paged;
+use sound_pages::mapped::mapped_fit;
+use sound_pages::once::once_a_page;
+use sound_rows::entries::entries_fit;
+use sound_rows::processes::processes_fit;
+use sound_rows::sizes::files_fit;
+use sound_rows::sizes::sized;
+use sound_rows::slots::regions_fit;
 
 // Counts, lengths and every row's limits.
 fn records_fit(words: &[u64], frames: usize, files: usize) -> bool

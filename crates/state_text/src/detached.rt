@@ -3,9 +3,9 @@ ghost use mathlib.Core.Path.{_≡_};
 ghost use Prim.Native.Nat.{_<_};
 ghost use lib.ListN.{length};
 ghost use Rattle.model.specs.Layout.{wordCount};
-use tables::attached::attached_count;
-use tables::regions::order_at;
-use tables::regions::region_at;
+use lookup::attached::attached_count;
+use rows::slots::order_at;
+use rows::slots::region_at;
 
 // The slot of the first detached region from a start on; 64 where there is none.
 pub fn next_detached(words: &[u64], process: usize, start: u64) -> usize

@@ -1,8 +1,8 @@
 // The machine's state as text, a line at a time.
 mod cursor;
 mod detached;
+mod lines;
 mod places;
-mod rows;
 mod state;
 mod sums;
 

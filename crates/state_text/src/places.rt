@@ -7,20 +7,20 @@ ghost use Rattle.state_text.specs.Left.{left, Going, Shows};
 use crate::cursor::Cursor;
 use crate::cursor::Shown;
 use crate::detached::next_detached;
-use crate::rows::put_entry;
-use crate::rows::put_mapping;
-use crate::rows::put_process;
-use crate::rows::put_region;
+use crate::lines::put_entry;
+use crate::lines::put_mapping;
+use crate::lines::put_process;
+use crate::lines::put_region;
 use address::Page;
+use lookup::attached::attached_count;
+use lookup::backed::backing_from;
+use lookup::backed::next_entry;
 use model::Found;
-use tables::attached::attached_count;
-use tables::backed::backing_from;
-use tables::backed::next_entry;
-use tables::pages::entry_at;
-use tables::pages::mapping_at;
-use tables::processes::process_at;
-use tables::regions::order_at;
-use tables::regions::region_at;
+use rows::pages::entry_at;
+use rows::pages::mapping_at;
+use rows::processes::process_at;
+use rows::slots::order_at;
+use rows::slots::region_at;
 
 // Puts what place k of a process shows.
 pub fn put_place(

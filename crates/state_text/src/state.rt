@@ -7,14 +7,14 @@ ghost use Rattle.model.specs.Layout.{wordCount};
 ghost use Rattle.state_text.specs.Left.{left, Going, Shows};
 use crate::cursor::Cursor;
 use crate::cursor::Shown;
+use crate::lines::put_pool;
+use crate::lines::put_sum;
 use crate::places::passed;
 use crate::places::put_place;
-use crate::rows::put_pool;
-use crate::rows::put_sum;
 use crate::sums::is_in_use;
 use crate::sums::sum_of;
-use tables::frames::frame_count;
-use tables::frames::pool;
+use rows::backings::frame_count;
+use rows::backings::pool;
 use text::put;
 
 // Puts what stands at a place of the state's text: a line, or nothing. What is left of the text falls each time, so it ends.

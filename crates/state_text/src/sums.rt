@@ -4,7 +4,7 @@ ghost use Prim.Native.Nat.{_<_};
 ghost use lib.ListN.{length};
 ghost use Rattle.model.specs.Layout.{wordCount};
 ghost use Rattle.state_text.specs.Sum.{sumFrom};
-use tables::frames::backing_at;
+use rows::backings::backing_at;
 
 // The sum over bytes, in 32 bits.
 pub fn sum_of(bytes: &[u8]) -> u64

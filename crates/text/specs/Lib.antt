@@ -1,9 +1,9 @@
 -- The definitions of the script's text, and their laws.
 pub mod Lines
 pub mod LinesLaws
-pub mod Number
-pub mod NumberLaws
-pub mod Words
-pub mod WordsLaws
+pub mod Numeral
+pub mod NumeralLaws
+pub mod LineWords
+pub mod LineWordsLaws
 pub mod Write
 pub mod WriteLaws

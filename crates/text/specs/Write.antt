@@ -4,7 +4,7 @@ use mathlib.Core.List.{List, _++_}
 use Prim.Native.Nat.{ℕ, _+_, _-_, _≤_}
 use lib.ListN.{length, take, drop}
 use Rattle.text.specs.declared.number.Number.the-variants.{Is}
-use Rattle.text.specs.Number.{numberIn}
+use Rattle.text.specs.Numeral.{numberIn}
 
 -- a text at a place, the place after it, and all else as it was
 pub record Put (old : List ℕ) (at : ℕ) (text new : List ℕ) (r : ℕ) : Type 0 where

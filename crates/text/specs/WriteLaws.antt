@@ -12,8 +12,8 @@ use lib.Seq.{take-all, take-length, drop-drop, take-at, drop-at, length-take-le}
 use borrow.Author.Tests.{lt-ltb, le-leb, leb-true, leb-false, eqb-true, ne-eqb}
 use Rattle.io.specs.Digits.{glyph, digits, Fewest}
 use Rattle.text.specs.declared.number.Number.the-variants.{Is}
-use Rattle.text.specs.Number.{digitOf, digitsb, fitting, digitsIn, numberIn, prefixed}
-use Rattle.text.specs.NumberLaws.{digits-digits, digits-value}
+use Rattle.text.specs.Numeral.{digitOf, digitsb, fitting, digitsIn, numberIn, prefixed}
+use Rattle.text.specs.NumeralLaws.{digits-digits, digits-value}
 use Rattle.text.specs.Write.{Put, Spelled}
 
 -- ---- a text at a place

@@ -1,7 +1,7 @@
 // Numbers out of words: decimal, or hexadecimal after `0x`, up to 2^64 - 1.
 ghost use mathlib.Core.Path.{_≡_};
 ghost use Prim.Native.Nat.{_≤_, _<_};
-ghost use Rattle.text.specs.Number.{digitOf, withDigit, digitsIn, numberIn};
+ghost use Rattle.text.specs.Numeral.{digitOf, withDigit, digitsIn, numberIn};
 
 // What a word is as a number.
 pub enum Number {

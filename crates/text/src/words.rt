@@ -4,7 +4,7 @@ ghost use mathlib.Core.Bool.{_||_};
 ghost use Prim.Native.Nat.{_+_, _-_, _≤_};
 ghost use lib.Dec.{eqb};
 ghost use lib.ListN.{length, drop};
-ghost use Rattle.text.specs.Words.{blanks, letters, wordAt, Lies};
+ghost use Rattle.text.specs.LineWords.{blanks, letters, wordAt, Lies};
 
 // Where a word of a line starts and ends. It is empty if the line had no further word, and lies in the line if it is not.
 pub struct Word {

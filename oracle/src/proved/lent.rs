@@ -11,7 +11,7 @@ unsafe extern "C" {
     ) -> u64;
 }
 
-#[cfg(proved_cores)]
+#[cfg(proved_bench)]
 unsafe extern "C" {
     fn cores_loads(
         words: *const u64,
@@ -53,7 +53,7 @@ impl Lent {
     }
 
     /// The sum of the bytes that a process loads at so many addresses from one on, with one test for all of them.
-    #[cfg(proved_cores)]
+    #[cfg(proved_bench)]
     #[must_use]
     pub fn loads(&self, process: u64, addr: u64, times: u64) -> u64 {
         let (w, f, b) = (&self.words, &self.frames, &self.files);

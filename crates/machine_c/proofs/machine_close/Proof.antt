@@ -4,8 +4,6 @@ use Rattle.model.specs.Answers.{ofDone}
 use borrow.Author.Needs.{needs}
 use Rattle.machine_c.proofs.machine_close.Statement.{statement}
 use Rattle.machine_c.proofs.machine_close.Tie as tie
-use Rattle.calls.proofs.close.Reads as close-reads
-use Rattle.machine_c.proofs.told.tell_done.Reads as tell-done-reads
 
 close-requires : tie.Need-close-requires
 close-requires c κs = search needs

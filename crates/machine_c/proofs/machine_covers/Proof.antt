@@ -1,12 +1,10 @@
 -- `machine_covers`: the call's answer as numbers.
 use mathlib.Core.Path.{ap, _∙_}
 use Rattle.model.specs.Answers.{ofCovering}
-use Rattle.machine_c.specs.Out.{told-all, told-nothing}
+use Rattle.machine_c.specs.OutLaws.{told-all, told-nothing}
 use borrow.Author.Needs.{needs}
 use Rattle.machine_c.proofs.machine_covers.Statement.{statement}
 use Rattle.machine_c.proofs.machine_covers.Tie as tie
-use Rattle.calls.proofs.covers.Reads as covers-reads
-use Rattle.machine_c.proofs.told.tell_covering.Reads as tell-covering-reads
 
 returns : tie.Need-returns
 returns c = told-nothing _ _ _ (c .if1 .taken)

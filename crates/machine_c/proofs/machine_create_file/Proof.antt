@@ -1,15 +1,11 @@
 -- `machine_create_file`: the call's answer as numbers.
-use Prim.Native.Nat.{ℕ}
 use mathlib.Core.Bool.{not}
 use lib.Dec.{eqb}
 use Rattle.model.specs.Calls as model
-use Rattle.machine_c.specs.Out.{told-nothing, left-alone, placed-out}
+use Rattle.machine_c.specs.OutLaws.{told-nothing, left-alone, placed-out}
 use borrow.Author.Needs.{needs}
 use Rattle.machine_c.proofs.machine_create_file.Statement.{statement}
 use Rattle.machine_c.proofs.machine_create_file.Tie as tie
-use Rattle.calls.proofs.create_file.Reads as create-file-reads
-use Rattle.machine_c.proofs.place_at.Reads as place-at-reads
-use Rattle.machine_c.proofs.told.tell_placed.Reads as tell-placed-reads
 
 returns : tie.Need-returns
 returns c = (told-nothing _ _ _ (c .if1 .taken), left-alone _ _ _ _ _ _ (c .if1 .taken))

@@ -1,12 +1,10 @@
 -- `machine_load`: the call's answer as numbers.
 use mathlib.Core.Path.{ap, _∙_}
 use Rattle.model.specs.Answers.{ofLoaded}
-use Rattle.machine_c.specs.Out.{told-all, told-nothing}
+use Rattle.machine_c.specs.OutLaws.{told-all, told-nothing}
 use borrow.Author.Needs.{needs}
 use Rattle.machine_c.proofs.machine_load.Statement.{statement}
 use Rattle.machine_c.proofs.machine_load.Tie as tie
-use Rattle.calls.proofs.load.Reads as load-reads
-use Rattle.machine_c.proofs.told.tell_loaded.Reads as tell-loaded-reads
 
 returns : tie.Need-returns
 returns c = told-nothing _ _ _ (c .if1 .taken)

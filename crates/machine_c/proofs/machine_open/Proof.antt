@@ -1,12 +1,10 @@
 -- `machine_open`: the call's answer as numbers.
 use mathlib.Core.Path.{ap, _∙_}
 use Rattle.model.specs.Answers.{ofOpened}
-use Rattle.machine_c.specs.Out.{told-all, told-nothing, left-out, left-alone}
+use Rattle.machine_c.specs.OutLaws.{told-all, told-nothing, left-out, left-alone}
 use borrow.Author.Needs.{needs}
 use Rattle.machine_c.proofs.machine_open.Statement.{statement}
 use Rattle.machine_c.proofs.machine_open.Tie as tie
-use Rattle.calls.proofs.open.Reads as open-reads
-use Rattle.machine_c.proofs.told.tell_opened.Reads as tell-opened-reads
 
 returns : tie.Need-returns
 returns c = (told-nothing _ _ _ (c .if1 .taken), left-alone _ _ _ _ _ _ (c .if1 .taken))

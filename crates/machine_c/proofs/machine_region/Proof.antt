@@ -1,12 +1,10 @@
 -- `machine_region`: the call's answer as numbers.
 use mathlib.Core.Path.{ap, _∙_}
 use Rattle.model.specs.Answers.{ofPlaced}
-use Rattle.machine_c.specs.Out.{told-all, told-nothing}
+use Rattle.machine_c.specs.OutLaws.{told-all, told-nothing}
 use borrow.Author.Needs.{needs}
 use Rattle.machine_c.proofs.machine_region.Statement.{statement}
 use Rattle.machine_c.proofs.machine_region.Tie as tie
-use Rattle.calls.proofs.region.Reads as region-reads
-use Rattle.machine_c.proofs.told.tell_placed.Reads as tell-placed-reads
 
 returns : tie.Need-returns
 returns c = told-nothing _ _ _ (c .if1 .taken)

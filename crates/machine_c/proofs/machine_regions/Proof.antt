@@ -1,12 +1,10 @@
 -- `machine_regions`: the call's answer as numbers.
 use mathlib.Core.Path.{ap, _∙_}
 use Rattle.model.specs.Answers.{ofListed}
-use Rattle.machine_c.specs.Out.{told-all, told-nothing}
+use Rattle.machine_c.specs.OutLaws.{told-all, told-nothing}
 use borrow.Author.Needs.{needs}
 use Rattle.machine_c.proofs.machine_regions.Statement.{statement}
 use Rattle.machine_c.proofs.machine_regions.Tie as tie
-use Rattle.calls.proofs.regions.Reads as regions-reads
-use Rattle.machine_c.proofs.told.tell_listed.Reads as tell-listed-reads
 
 returns : tie.Need-returns
 returns c = told-nothing _ _ _ (c .if1 .taken)

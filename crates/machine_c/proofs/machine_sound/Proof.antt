@@ -4,7 +4,6 @@ use Rattle.machine_c.specs.Numbers.{soundNumber}
 use borrow.Author.Needs.{needs}
 use Rattle.machine_c.proofs.machine_sound.Statement.{statement}
 use Rattle.machine_c.proofs.machine_sound.Tie as tie
-use Rattle.soundness.proofs.is_sound.Reads as is-sound-reads
 
 is-sound-requires : tie.Need-is-sound-requires
 is-sound-requires c κs = search needs

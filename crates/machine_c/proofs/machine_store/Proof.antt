@@ -4,8 +4,6 @@ use Rattle.model.specs.Answers.{ofDone}
 use borrow.Author.Needs.{needs}
 use Rattle.machine_c.proofs.machine_store.Statement.{statement}
 use Rattle.machine_c.proofs.machine_store.Tie as tie
-use Rattle.calls.proofs.store.Reads as store-reads
-use Rattle.machine_c.proofs.told.tell_done.Reads as tell-done-reads
 
 store-requires : tie.Need-store-requires
 store-requires c κs = search needs

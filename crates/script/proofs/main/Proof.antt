@@ -3,7 +3,8 @@ use mathlib.Core.Path.{_≡_, sym, _∙_}
 use native.Mathlib.Omega.{arith}
 use lib.ListN.{length}
 use borrow.Author.Needs.{needs}
-use Rattle.script.specs.Session.{Kept, kept-in}
+use Rattle.script.specs.Session.{Kept}
+use Rattle.script.specs.SessionLaws.{kept-in}
 use Rattle.script.proofs.main.Statement.{statement}
 use Rattle.script.proofs.main.Tie as tie
 

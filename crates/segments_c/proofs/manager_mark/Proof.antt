@@ -3,8 +3,8 @@ use mathlib.Core.Path.{ap, _∙_}
 use mathlib.Core.List.{[]}
 use borrow.Author.Needs.{needs}
 use Rattle.segments.specs.Calls.{markCall}
-use Rattle.segments_c.specs.Lent.{markOn}
-use Rattle.segments_c.specs.LentLaws.{other-words, mark-is, answered-done, answered-refused}
+use Rattle.segments_c.specs.LentManager.{markOn}
+use Rattle.segments_c.specs.LentManagerLaws.{other-words, mark-is, answered-done, answered-refused}
 use Rattle.segments_c.proofs.manager_mark.Statement.{statement}
 use Rattle.segments_c.proofs.manager_mark.Tie as tie
 

@@ -2,8 +2,8 @@
 use mathlib.Core.Path.{refl}
 use mathlib.Core.List.{[]}
 use borrow.Author.Needs.{needs}
-use Rattle.segments_c.specs.Lent.{managerOf, newOn}
-use Rattle.segments_c.specs.LentLaws.{other-words, new-is, answered-done, answered-refused}
+use Rattle.segments_c.specs.LentManager.{managerOf, newOn}
+use Rattle.segments_c.specs.LentManagerLaws.{other-words, new-is, answered-done, answered-refused}
 use Rattle.segments_c.proofs.manager_new.Statement.{statement}
 use Rattle.segments_c.proofs.manager_new.Tie as tie
 

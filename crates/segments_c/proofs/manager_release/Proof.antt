@@ -2,8 +2,8 @@
 use mathlib.Core.Path.{ap, _∙_}
 use borrow.Author.Needs.{needs}
 use Rattle.segments.specs.Calls.{releaseCall}
-use Rattle.segments_c.specs.Lent.{releaseOn}
-use Rattle.segments_c.specs.LentLaws.{other-words-out, other-out, release-is, released-yes, released-no, released-refused}
+use Rattle.segments_c.specs.LentManager.{releaseOn}
+use Rattle.segments_c.specs.LentManagerLaws.{other-words-out, other-out, release-is, released-yes, released-no, released-refused}
 use Rattle.segments_c.proofs.manager_release.Statement.{statement}
 use Rattle.segments_c.proofs.manager_release.Tie as tie
 

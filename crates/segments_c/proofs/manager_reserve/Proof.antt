@@ -1,7 +1,7 @@
 -- `manager_reserve` meets its contract, one law for each way through it.
 use borrow.Author.Needs.{needs}
-use Rattle.segments_c.specs.Lent.{reserveOn}
-use Rattle.segments_c.specs.LentLaws.{other-words-out, other-out, reserve-is, reserved-at, reserved-refused}
+use Rattle.segments_c.specs.LentManager.{reserveOn}
+use Rattle.segments_c.specs.LentManagerLaws.{other-words-out, other-out, reserve-is, reserved-at, reserved-refused}
 use Rattle.segments_c.proofs.manager_reserve.Statement.{statement}
 use Rattle.segments_c.proofs.manager_reserve.Tie as tie
 

@@ -3,8 +3,8 @@ use mathlib.Core.Path.{ap, _∙_}
 use borrow.Author.Needs.{needs}
 use Rattle.segment.specs.declared.Segment.{Segment}
 use Rattle.segments.specs.Calls.{splitCall}
-use Rattle.segments_c.specs.Lent.{splitOn}
-use Rattle.segments_c.specs.LentLaws.{other-words-out, other-out, split-is, split-parts, split-refused}
+use Rattle.segments_c.specs.LentManager.{splitOn}
+use Rattle.segments_c.specs.LentManagerLaws.{other-words-out, other-out, split-is, split-parts, split-refused}
 use Rattle.segments_c.proofs.manager_split.Statement.{statement}
 use Rattle.segments_c.proofs.manager_split.Tie as tie
 

@@ -1,12 +1,9 @@
 -- `frames_fit` asks the tests of backings and holders one after the other.
-use Rattle.fits.specs.Steps.{fails, passes, refused, allowed}
+use Rattle.laws.specs.TestChainLaws.{fails, passes, refused, allowed}
 use Rattle.soundness.specs.Stages.{framesFit}
 use borrow.Author.Needs.{needs}
 use Rattle.soundness.proofs.frames_fit.Statement.{statement}
 use Rattle.soundness.proofs.frames_fit.Tie as tie
-use Rattle.holds.proofs.backings.backings_fit.Reads as backings-fit-reads
-use Rattle.holds.proofs.holders.counted.Reads as counted-reads
-use Rattle.holds.proofs.onepage.one_page.Reads as one-page-reads
 
 backings-fit-requires : tie.Need-backings-fit-requires
 backings-fit-requires c κs = search needs

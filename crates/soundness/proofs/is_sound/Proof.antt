@@ -1,13 +1,9 @@
 -- `is_sound` asks the stages one after the other; the earlier ones tell what the later ones lean on.
-use Rattle.fits.specs.Steps.{refused, allowed}
+use Rattle.laws.specs.TestChainLaws.{refused, allowed}
 use Rattle.soundness.specs.StageLaws.{other-length, records-fail, lists-fail, frames-fail, mapped-last, few-frames, holders-fit, laid}
 use borrow.Author.Needs.{needs}
 use Rattle.soundness.proofs.is_sound.Statement.{statement}
 use Rattle.soundness.proofs.is_sound.Tie as tie
-use Rattle.homes.proofs.mapped.mapped_fit.Reads as mapped-fit-reads
-use Rattle.soundness.proofs.frames_fit.Reads as frames-fit-reads
-use Rattle.soundness.proofs.lists_fit.Reads as lists-fit-reads
-use Rattle.soundness.proofs.records_fit.Reads as records-fit-reads
 
 returns : tie.Need-returns
 returns c = other-length _ _ _ (c .if1 .taken)

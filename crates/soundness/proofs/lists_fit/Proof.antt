@@ -1,13 +1,9 @@
 -- `lists_fit` asks the tests of lists and of pairs one after the other.
-use Rattle.fits.specs.Steps.{fails, passes, refused, allowed}
+use Rattle.laws.specs.TestChainLaws.{fails, passes, refused, allowed}
 use Rattle.soundness.specs.Stages.{listsFit}
 use borrow.Author.Needs.{needs}
 use Rattle.soundness.proofs.lists_fit.Statement.{statement}
 use Rattle.soundness.proofs.lists_fit.Tie as tie
-use Rattle.fits.proofs.apart.disjoint.Reads as disjoint-reads
-use Rattle.fits.proofs.lists.ordered.Reads as ordered-reads
-use Rattle.fits.proofs.pages.paged.Reads as paged-reads
-use Rattle.homes.proofs.once.once_a_page.Reads as once-a-page-reads
 
 ordered-requires : tie.Need-ordered-requires
 ordered-requires c κs = search needs

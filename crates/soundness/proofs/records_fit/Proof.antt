@@ -1,14 +1,9 @@
 -- `records_fit` asks the tests of counts, lengths and rows one after the other.
-use Rattle.fits.specs.Steps.{fails, passes, refused, allowed}
+use Rattle.laws.specs.TestChainLaws.{fails, passes, refused, allowed}
 use Rattle.soundness.specs.Stages.{recordsFit}
 use borrow.Author.Needs.{needs}
 use Rattle.soundness.proofs.records_fit.Statement.{statement}
 use Rattle.soundness.proofs.records_fit.Tie as tie
-use Rattle.fits.proofs.entries.entries_fit.Reads as entries-fit-reads
-use Rattle.fits.proofs.processes.processes_fit.Reads as processes-fit-reads
-use Rattle.fits.proofs.regions.regions_fit.Reads as regions-fit-reads
-use Rattle.fits.proofs.sizes.files_fit.Reads as files-fit-reads
-use Rattle.fits.proofs.sizes.sized.Reads as sized-reads
 
 sized-requires : tie.Need-sized-requires
 sized-requires c κs = search needs

@@ -1,11 +1,10 @@
 -- `file::all_digits` meets its contract. The invariant: what is left is all digits exactly if the word is.
 use mathlib.Core.Path.{_≡_, refl, _∙_}
 use Prim.Native.Nat.{_-_}
-use native.Mathlib.Omega.{arith}
 use lib.ListN.{length, drop}
 use borrow.Author.Needs.{needs}
-use Rattle.text.specs.Number.{digitsb}
-use Rattle.call_text.specs.FileLaws.{no-digit, digit-more, digits-end}
+use Rattle.text.specs.Numeral.{digitsb}
+use Rattle.call_text.specs.FileLineLaws.{no-digit, digit-more, digits-end}
 use Rattle.call_text.proofs.file.all_digits.Statement.{statement}
 use Rattle.call_text.proofs.file.all_digits.Tie as tie
 

@@ -1,6 +1,6 @@
 -- `file::read_bytes` meets its contract, one law for each way through it.
 use borrow.Author.Needs.{needs}
-use Rattle.call_text.specs.FileLaws.{bytes-none, bytes-are, bytes-not}
+use Rattle.call_text.specs.FileLineLaws.{bytes-none, bytes-are, bytes-not}
 use Rattle.call_text.proofs.file.read_bytes.Statement.{statement}
 use Rattle.call_text.proofs.file.read_bytes.Tie as tie
 

@@ -1,7 +1,7 @@
 -- `file::read_file` meets its contract, one law for each way through it.
 use borrow.Author.Needs.{needs}
 use Rattle.call_text.specs.Choice.{codes}
-use Rattle.call_text.specs.File.{fileIn}
+use Rattle.call_text.specs.FileLine.{fileIn}
 use Rattle.call_text.specs.OperandLaws.{of-value, of-bad}
 use Rattle.call_text.proofs.file.read_file.Statement.{statement}
 use Rattle.call_text.proofs.file.read_file.Tie as tie

@@ -1,6 +1,6 @@
 -- `file::spells_bytes` meets its contract, one law for each way through it.
 use borrow.Author.Needs.{needs}
-use Rattle.call_text.specs.FileLaws.{odd, even}
+use Rattle.call_text.specs.FileLineLaws.{odd, even}
 use Rattle.call_text.proofs.file.spells_bytes.Statement.{statement}
 use Rattle.call_text.proofs.file.spells_bytes.Tie as tie
 

@@ -1,11 +1,10 @@
 -- `tell_covering`: the number, and 1 or 0.
 use mathlib.Core.Path.{ap, sym, _∙_}
 use Rattle.model.specs.Answers.{ofCovering}
-use Rattle.machine_c.specs.Out.{one-word}
+use Rattle.machine_c.specs.OutLaws.{one-word}
 use borrow.Author.Needs.{needs}
 use Rattle.machine_c.proofs.told.tell_covering.Statement.{statement}
 use Rattle.machine_c.proofs.told.tell_covering.Tie as tie
-use Rattle.answers.proofs.Refusal.number.Reads as number-reads
 
 enum-told : tie.Need-enum-told
 enum-told c = search needs

@@ -4,7 +4,6 @@ use Rattle.model.specs.Answers.{ofDone}
 use borrow.Author.Needs.{needs}
 use Rattle.machine_c.proofs.told.tell_done.Statement.{statement}
 use Rattle.machine_c.proofs.told.tell_done.Tie as tie
-use Rattle.answers.proofs.Refusal.number.Reads as number-reads
 
 enum-told : tie.Need-enum-told
 enum-told c = search needs

@@ -4,10 +4,9 @@ use Prim.Native.Nat.{_-_}
 use native.Mathlib.Omega.{arith}
 use lib.ListN.{length-map}
 use borrow.Author.Needs.{needs}
-use Rattle.machine_c.specs.Copied.{Copied, copied-none, copied-more, copied-all}
+use Rattle.machine_c.specs.CopiedLaws.{Copied, copied-none, copied-more, copied-all}
 use Rattle.machine_c.proofs.told.tell_listed.Statement.{statement}
 use Rattle.machine_c.proofs.told.tell_listed.Tie as tie
-use Rattle.machine_c.proofs.told.tell_done.Reads as tell-done-reads
 
 abbrev Inv-loop : tie.InvT-loop
 Inv-loop out₀ answer i₀ out i = Copied (answer .count) (answer .starts) out i

@@ -1,11 +1,10 @@
 -- `tell_loaded`: the number, and the value or zero.
 use mathlib.Core.Path.{ap, sym, _∙_}
 use Rattle.model.specs.Answers.{ofLoaded}
-use Rattle.machine_c.specs.Out.{one-word}
+use Rattle.machine_c.specs.OutLaws.{one-word}
 use borrow.Author.Needs.{needs}
 use Rattle.machine_c.proofs.told.tell_loaded.Statement.{statement}
 use Rattle.machine_c.proofs.told.tell_loaded.Tie as tie
-use Rattle.answers.proofs.Refusal.number.Reads as number-reads
 
 enum-known-answer : tie.Need-enum-known-answer
 enum-known-answer c = search needs

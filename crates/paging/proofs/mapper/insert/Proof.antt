@@ -1,6 +1,6 @@
 -- `insert` makes room, puts the row and counts it.
 use native.Mathlib.Omega.{arith}
-use Rattle.paging.specs.MapperSteps.{insert-done}
+use Rattle.paging.specs.MapperStepLaws.{insert-done}
 use borrow.Author.Needs.{needs}
 use Rattle.paging.proofs.mapper.insert.Statement.{statement}
 use Rattle.paging.proofs.mapper.insert.Tie as tie

@@ -1,6 +1,6 @@
 -- `map` puts the row in its place, where there is room.
 use Rattle.model.specs.Layout.{machine}
-use Rattle.paging.specs.MapperSteps.{map-done, map-full}
+use Rattle.paging.specs.MapperStepLaws.{map-done, map-full}
 use borrow.Author.Needs.{needs}
 use Rattle.paging.proofs.mapper.map.Statement.{statement}
 use Rattle.paging.proofs.mapper.map.Tie as tie

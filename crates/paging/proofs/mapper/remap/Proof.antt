@@ -2,9 +2,9 @@
 use mathlib.Core.Path.{sym, _∙_}
 use Rattle.model.specs.Layout.{machine}
 use Rattle.model.specs.Machine.{mappedOf}
-use Rattle.paging.specs.RowsLaws.{mapped-rows, mapped-most}
+use Rattle.paging.specs.ProcessRowsLaws.{mapped-rows, mapped-most}
 use Rattle.paging.specs.PlaceLaws.{row-inside}
-use Rattle.paging.specs.MapperSteps.{remap-found, remap-no-row}
+use Rattle.paging.specs.MapperStepLaws.{remap-found, remap-no-row}
 use borrow.Author.Needs.{needs}
 use Rattle.paging.proofs.mapper.remap.Statement.{statement}
 use Rattle.paging.proofs.mapper.remap.Tie as tie

@@ -1,7 +1,7 @@
 -- `take_out` closes the gap, clears the freed rows and counts what is left.
 use mathlib.Core.Path.{refl}
 use native.Mathlib.Omega.{arith}
-use Rattle.paging.specs.MapperSteps.{take-out-done}
+use Rattle.paging.specs.MapperStepLaws.{take-out-done}
 use borrow.Author.Needs.{needs}
 use Rattle.paging.proofs.mapper.take_out.Statement.{statement}
 use Rattle.paging.proofs.mapper.take_out.Tie as tie

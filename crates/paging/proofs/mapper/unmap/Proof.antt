@@ -3,9 +3,9 @@ use mathlib.Core.Path.{sym, _∙_}
 use native.Mathlib.Omega.{arith}
 use Rattle.model.specs.Layout.{machine}
 use Rattle.model.specs.Machine.{mappedOf}
-use Rattle.paging.specs.RowsLaws.{mapped-row}
+use Rattle.paging.specs.ProcessRowsLaws.{mapped-row}
 use Rattle.paging.specs.PlaceLaws.{row-inside, translate-found, translate-missing}
-use Rattle.paging.specs.MapperSteps.{unmap-found, unmap-no-row}
+use Rattle.paging.specs.MapperStepLaws.{unmap-found, unmap-no-row}
 use borrow.Author.Needs.{needs}
 use Rattle.paging.proofs.mapper.unmap.Statement.{statement}
 use Rattle.paging.proofs.mapper.unmap.Tie as tie

@@ -1,6 +1,6 @@
 -- `unmap_from` takes out the rows between the places of the region's first page and of the first past it.
 use Rattle.model.specs.Layout.{machine}
-use Rattle.paging.specs.MapperSteps.{some-taken, none-taken}
+use Rattle.paging.specs.MapperStepLaws.{some-taken, none-taken}
 use borrow.Author.Needs.{needs}
 use Rattle.paging.proofs.mapper.unmap_from.Statement.{statement}
 use Rattle.paging.proofs.mapper.unmap_from.Tie as tie

@@ -1,7 +1,7 @@
 -- `mapped_count` is the length of the list of mapped pages.
 use native.Mathlib.Omega.{arith}
 use Rattle.model.specs.Layout.{machine}
-use Rattle.paging.specs.RowsLaws.{mapped-rows, count-some, count-all}
+use Rattle.paging.specs.ProcessRowsLaws.{mapped-rows, count-some, count-all}
 use borrow.Author.Needs.{needs}
 use Rattle.paging.proofs.search.mapped_count.Statement.{statement}
 use Rattle.paging.proofs.search.mapped_count.Tie as tie

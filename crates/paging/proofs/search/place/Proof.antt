@@ -5,7 +5,7 @@ use native.Mathlib.Omega.{arith}
 use borrow.Author.Needs.{needs}
 use Rattle.model.specs.Layout.{machine}
 use Rattle.model.specs.Machine.{mappedOf}
-use Rattle.paging.specs.RowsLaws.{mapped-row}
+use Rattle.paging.specs.ProcessRowsLaws.{mapped-row}
 use Rattle.paging.specs.PlaceLaws.{Searched, search-first, search-up, search-down, search-done}
 use Rattle.paging.proofs.search.place.Statement.{statement}
 use Rattle.paging.proofs.search.place.Tie as tie

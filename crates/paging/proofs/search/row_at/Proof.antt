@@ -1,7 +1,7 @@
 -- `row_at` reads row i of a process's part of the table.
 use native.Mathlib.Omega.{arith}
 use Rattle.model.specs.Layout.{machine}
-use Rattle.paging.specs.RowsLaws.{row-is}
+use Rattle.paging.specs.ProcessRowsLaws.{row-is}
 use borrow.Author.Needs.{needs}
 use Rattle.paging.proofs.search.row_at.Statement.{statement}
 use Rattle.paging.proofs.search.row_at.Tie as tie

@@ -5,7 +5,7 @@ use lib.Dec.{eqb}
 use Rattle.model.specs.declared.Mapping.{Mapping}
 use Rattle.model.specs.Layout.{machine}
 use Rattle.model.specs.Machine.{mappedOf}
-use Rattle.paging.specs.RowsLaws.{mapped-row}
+use Rattle.paging.specs.ProcessRowsLaws.{mapped-row}
 use Rattle.paging.specs.PlaceLaws.{stands-in, stands-past}
 use borrow.Author.Needs.{needs}
 use Rattle.paging.proofs.search.stands_at.Statement.{statement}

@@ -2,7 +2,7 @@
 use mathlib.Core.Path.{sym, _∙_}
 use Rattle.model.specs.Layout.{machine}
 use Rattle.model.specs.Machine.{mappedOf}
-use Rattle.paging.specs.RowsLaws.{mapped-rows, mapped-row, mapped-most}
+use Rattle.paging.specs.ProcessRowsLaws.{mapped-rows, mapped-row, mapped-most}
 use Rattle.paging.specs.PlaceLaws.{row-inside, translate-found, translate-missing}
 use borrow.Author.Needs.{needs}
 use Rattle.paging.proofs.search.translate.Statement.{statement}

@@ -1,7 +1,7 @@
 -- `add_region` puts the region, its slot's place, and the count.
 use native.Mathlib.Omega.{arith}
 use Rattle.model.specs.Layout.{machine}
-use Rattle.regions.specs.Added.{count-below, puts-added}
+use Rattle.regions.specs.AddedLaws.{count-below, puts-added}
 use borrow.Author.Needs.{needs}
 use Rattle.regions.proofs.add.add_region.Statement.{statement}
 use Rattle.regions.proofs.add.add_region.Tie as tie

@@ -1,6 +1,6 @@
 -- `covered_until` is coveredUntil.
 use Rattle.model.specs.Layout.{machine}
-use Rattle.regions.specs.Cover.{until-region, until-none}
+use Rattle.regions.specs.CoverLaws.{until-region, until-none}
 use borrow.Author.Needs.{needs}
 use Rattle.regions.proofs.cover.covered_until.Statement.{statement}
 use Rattle.regions.proofs.cover.covered_until.Tie as tie

@@ -3,7 +3,7 @@ use Prim.Native.Nat.{_-_}
 use native.Mathlib.Omega.{arith}
 use borrow.Author.Needs.{needs}
 use Rattle.model.specs.Layout.{machine}
-use Rattle.regions.specs.Cover.{Covers, covers-first, covers-reached, covers-gap, covers-more, covers-last}
+use Rattle.regions.specs.CoverLaws.{Covers, covers-first, covers-reached, covers-gap, covers-more, covers-last}
 use Rattle.regions.proofs.cover.covers.Statement.{statement}
 use Rattle.regions.proofs.cover.covers.Tie as tie
 

@@ -1,6 +1,6 @@
 -- `end_within` is endWithin: no sum is made that could be too large.
 use native.Mathlib.Omega.{arith}
-use Rattle.regions.specs.Cover.{ends-before, ends-past}
+use Rattle.regions.specs.CoverLaws.{ends-before, ends-past}
 use borrow.Author.Needs.{needs}
 use Rattle.regions.proofs.cover.end_within.Statement.{statement}
 use Rattle.regions.proofs.cover.end_within.Tie as tie

@@ -2,7 +2,7 @@
 use Prim.Native.Nat.{_-_}
 use native.Mathlib.Omega.{arith}
 use borrow.Author.Needs.{needs}
-use Rattle.regions.specs.Kept.{Cleared, clear-first, clear-more, clear-all}
+use Rattle.regions.specs.DetachedLaws.{Cleared, clear-first, clear-more, clear-all}
 use Rattle.regions.proofs.detach.clear_places.Statement.{statement}
 use Rattle.regions.proofs.detach.clear_places.Tie as tie
 

@@ -1,9 +1,10 @@
 -- `detach` puts the list without the slot, zeros after it, and the count.
-use Rattle.model.specs.Lists.{keep}
+use Rattle.laws.specs.Lists.{keep}
 use Rattle.model.specs.Layout.{machine}
 use Rattle.model.specs.Machine.{orderOf}
-use Rattle.regions.specs.Added.{places-inside}
-use Rattle.regions.specs.Kept.{other, puts-list}
+use Rattle.regions.specs.AddedLaws.{places-inside}
+use Rattle.regions.specs.Detached.{other}
+use Rattle.regions.specs.DetachedLaws.{puts-list}
 use borrow.Author.Needs.{needs}
 use Rattle.regions.proofs.detach.detach.Statement.{statement}
 use Rattle.regions.proofs.detach.detach.Tie as tie

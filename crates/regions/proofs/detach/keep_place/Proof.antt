@@ -1,6 +1,6 @@
 -- `keep_place` puts what stands at a place, if it is kept, and counts it.
 use Rattle.model.specs.Layout.{machine}
-use Rattle.regions.specs.Kept.{place-leaves, place-stays}
+use Rattle.regions.specs.DetachedLaws.{place-leaves, place-stays}
 use borrow.Author.Needs.{needs}
 use Rattle.regions.proofs.detach.keep_place.Statement.{statement}
 use Rattle.regions.proofs.detach.keep_place.Tie as tie

@@ -2,7 +2,7 @@
 use Prim.Native.Nat.{_-_}
 use native.Mathlib.Omega.{arith}
 use borrow.Author.Needs.{needs}
-use Rattle.regions.specs.Kept.{Retained, retain-first, retain-more, retain-all}
+use Rattle.regions.specs.DetachedLaws.{Retained, retain-first, retain-more, retain-all}
 use Rattle.regions.proofs.detach.retain.Statement.{statement}
 use Rattle.regions.proofs.detach.retain.Tie as tie
 

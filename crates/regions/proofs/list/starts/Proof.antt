@@ -3,8 +3,8 @@ use mathlib.Core.Path.{refl}
 use Prim.Native.Nat.{_-_}
 use native.Mathlib.Omega.{arith}
 use borrow.Author.Needs.{needs}
-use Rattle.model.specs.Lists.{pad}
-use Rattle.regions.specs.Listing.{listed, Filled, filled-more, filled-all}
+use Rattle.laws.specs.Lists.{pad}
+use Rattle.regions.specs.ListingLaws.{listed, Filled, filled-more, filled-all}
 use Rattle.regions.proofs.list.starts.Statement.{statement}
 use Rattle.regions.proofs.list.starts.Tie as tie
 

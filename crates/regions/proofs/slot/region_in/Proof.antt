@@ -1,7 +1,7 @@
 -- `region_in` reads the slot's row, or none.
 use mathlib.Core.Path.{sym, _∙_}
 use native.Mathlib.Omega.{arith}
-use Rattle.regions.specs.Slot.{no-row}
+use Rattle.regions.specs.SlotPastLaws.{no-row}
 use borrow.Author.Needs.{needs}
 use Rattle.regions.proofs.slot.region_in.Statement.{statement}
 use Rattle.regions.proofs.slot.region_in.Tie as tie

@@ -1,5 +1,5 @@
 -- `memory::files` is as long as it says.
-use Rattle.script.specs.Full.{full}
+use Rattle.script.specs.FullLaws.{full}
 use Rattle.script.proofs.memory.files.Statement.{statement}
 use Rattle.script.proofs.memory.files.Tie as tie
 

@@ -1,5 +1,5 @@
 -- `memory::frames` is as long as it says.
-use Rattle.script.specs.Full.{full}
+use Rattle.script.specs.FullLaws.{full}
 use Rattle.script.proofs.memory.frames.Statement.{statement}
 use Rattle.script.proofs.memory.frames.Tie as tie
 

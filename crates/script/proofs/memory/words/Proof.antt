@@ -1,5 +1,5 @@
 -- `memory::words` is as long as it says.
-use Rattle.script.specs.Full.{full}
+use Rattle.script.specs.FullLaws.{full}
 use Rattle.script.proofs.memory.words.Statement.{statement}
 use Rattle.script.proofs.memory.words.Tie as tie
 

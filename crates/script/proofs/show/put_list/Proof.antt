@@ -1,7 +1,7 @@
 -- `show::put_list` meets its contract: a list has 64 rows at most.
 use native.Mathlib.Omega.{arith}
 use borrow.Author.Needs.{needs}
-use Rattle.script.specs.Few.{few}
+use Rattle.script.specs.FewLaws.{few}
 use Rattle.script.proofs.show.put_list.Statement.{statement}
 use Rattle.script.proofs.show.put_list.Tie as tie
 

@@ -4,7 +4,7 @@ use mathlib.Core.Bool.{true, false}
 use Prim.Native.Nat.{_≤_}
 use lib.ListN.{length}
 use borrow.Author.Needs.{needs}
-use Rattle.script.specs.Show.{turns, fewer}
+use Rattle.script.specs.ShowLaws.{turns, fewer}
 use Rattle.script.proofs.show.put_state.Statement.{statement}
 use Rattle.script.proofs.show.put_state.Tie as tie
 

@@ -1,6 +1,6 @@
 -- `words::load` meets its contract, from the rows that it reads.
 use borrow.Author.Needs.{needs}
-use Rattle.segments_c.specs.WordsLaws.{loaded}
+use Rattle.segments_c.specs.ManagerWordsLaws.{loaded}
 use Rattle.segments_c.proofs.words.load.Statement.{statement}
 use Rattle.segments_c.proofs.words.load.Tie as tie
 

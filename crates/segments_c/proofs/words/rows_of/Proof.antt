@@ -1,7 +1,7 @@
 -- `words::rows_of` meets its contract. The invariant: so many rows are read, and empty ones follow.
 use Prim.Native.Nat.{_-_}
 use native.Mathlib.Omega.{arith}
-use Rattle.segments_c.specs.WordsLaws.{Loaded, load-first, load-more, load-done}
+use Rattle.segments_c.specs.ManagerWordsLaws.{Loaded, load-first, load-more, load-done}
 use Rattle.segments_c.proofs.words.rows_of.Statement.{statement}
 use Rattle.segments_c.proofs.words.rows_of.Tie as tie
 

@@ -3,7 +3,7 @@ use mathlib.Core.Path.{sym, _∙_}
 use Prim.Native.Nat.{_-_}
 use native.Mathlib.Omega.{arith}
 use lib.ListN.{set, length-map, length-set}
-use Rattle.segments_c.specs.WordsLaws.{Stored, store-first, store-more, store-done, stored-words}
+use Rattle.segments_c.specs.ManagerWordsLaws.{Stored, store-first, store-more, store-done, stored-words}
 use Rattle.segments_c.proofs.words.store.Statement.{statement}
 use Rattle.segments_c.proofs.words.store.Tie as tie
 

@@ -3,7 +3,8 @@ use mathlib.Core.Path.{_≡_, refl, _∙_}
 use Prim.Native.Nat.{_-_, _^_, _≤_, _<_}
 use native.Mathlib.Omega.{arith}
 use lib.ListN.{length, drop}
-use Rattle.state_text.specs.Sum.{sumFrom, sum-small, sum-more, sum-all}
+use Rattle.state_text.specs.Sum.{sumFrom}
+use Rattle.state_text.specs.SumLaws.{sum-small, sum-more, sum-all}
 use borrow.Author.Needs.{needs}
 use Rattle.state_text.proofs.sums.sum_of.Statement.{statement}
 use Rattle.state_text.proofs.sums.sum_of.Tie as tie

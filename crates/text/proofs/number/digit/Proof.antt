@@ -1,7 +1,7 @@
 -- `number::digit` meets its contract: each return rewrites with the tests that led to it.
 use borrow.Author.Needs.{needs}
 use borrow.Author.Tests.{lt-ltb, le-ltb}
-use Rattle.text.specs.Number.{digitOf}
+use Rattle.text.specs.Numeral.{digitOf}
 use Rattle.text.proofs.number.digit.Statement.{statement}
 use Rattle.text.proofs.number.digit.Tie as tie
 

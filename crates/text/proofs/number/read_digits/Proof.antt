@@ -4,8 +4,8 @@ use Prim.Native.Nat.{_-_, _≤_}
 use native.Mathlib.Omega.{arith}
 use lib.ListN.{length, drop}
 use borrow.Author.Needs.{needs}
-use Rattle.text.specs.NumberLaws.{none-read, read-more, read-all}
-use Rattle.text.specs.Number.{fitting, reading}
+use Rattle.text.specs.NumeralLaws.{none-read, read-more, read-all}
+use Rattle.text.specs.Numeral.{fitting, reading}
 use Rattle.text.proofs.number.read_digits.Statement.{statement}
 use Rattle.text.proofs.number.read_digits.Tie as tie
 

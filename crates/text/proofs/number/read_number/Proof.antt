@@ -1,7 +1,7 @@
 -- `number::read_number` meets its contract, one law for each way through it.
 use native.Mathlib.Omega.{arith}
 use borrow.Author.Needs.{needs}
-use Rattle.text.specs.NumberLaws.{short, no-zero, no-x, hexadecimal}
+use Rattle.text.specs.NumeralLaws.{short, no-zero, no-x, hexadecimal}
 use Rattle.text.proofs.number.read_number.Statement.{statement}
 use Rattle.text.proofs.number.read_number.Tie as tie
 

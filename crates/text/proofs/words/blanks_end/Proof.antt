@@ -5,8 +5,8 @@ use native.Mathlib.Omega.{arith}
 use lib.ListN.{length, drop}
 use borrow.Author.Tests.{not-true, not-false}
 use borrow.Author.Needs.{needs}
-use Rattle.text.specs.WordsLaws.{blanks-more, blanks-none, blanks-ended}
-use Rattle.text.specs.Words.{blanks}
+use Rattle.text.specs.LineWordsLaws.{blanks-more, blanks-none, blanks-ended}
+use Rattle.text.specs.LineWords.{blanks}
 use Rattle.text.proofs.words.blanks_end.Statement.{statement}
 use Rattle.text.proofs.words.blanks_end.Tie as tie
 

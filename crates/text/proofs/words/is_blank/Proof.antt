@@ -1,6 +1,6 @@
 -- `words::is_blank` meets its contract: its two ways are those of `or`.
 use borrow.Author.Tests.{eq-eqb, ne-eqb}
-use Rattle.text.specs.WordsLaws.{or-first, or-second}
+use Rattle.text.specs.LineWordsLaws.{or-first, or-second}
 use Rattle.text.proofs.words.is_blank.Statement.{statement}
 use Rattle.text.proofs.words.is_blank.Tie as tie
 

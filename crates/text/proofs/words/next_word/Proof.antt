@@ -1,6 +1,6 @@
 -- `words::next_word` meets its contract, from what its two callees ensure.
 use borrow.Author.Needs.{needs}
-use Rattle.text.specs.WordsLaws.{word-at}
+use Rattle.text.specs.LineWordsLaws.{word-at}
 use Rattle.text.proofs.words.next_word.Statement.{statement}
 use Rattle.text.proofs.words.next_word.Tie as tie
 

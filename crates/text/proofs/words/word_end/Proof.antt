@@ -4,8 +4,8 @@ use Prim.Native.Nat.{_+_, _-_, _≤_}
 use native.Mathlib.Omega.{arith}
 use lib.ListN.{length, drop}
 use borrow.Author.Needs.{needs}
-use Rattle.text.specs.WordsLaws.{letters-more, letters-none, letters-ended}
-use Rattle.text.specs.Words.{letters}
+use Rattle.text.specs.LineWordsLaws.{letters-more, letters-none, letters-ended}
+use Rattle.text.specs.LineWords.{letters}
 use Rattle.text.proofs.words.word_end.Statement.{statement}
 use Rattle.text.proofs.words.word_end.Tie as tie
 

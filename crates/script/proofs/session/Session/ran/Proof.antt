@@ -4,7 +4,8 @@ use Prim.Native.Nat.{_-_, _≤_}
 use native.Mathlib.Omega.{arith}
 use lib.ListN.{length}
 use borrow.Author.Needs.{needs}
-use Rattle.script.specs.Session.{Kept, kept-in}
+use Rattle.script.specs.Session.{Kept}
+use Rattle.script.specs.SessionLaws.{kept-in}
 use Rattle.script.proofs.session.Session.ran.Statement.{statement}
 use Rattle.script.proofs.session.Session.ran.Tie as tie
 

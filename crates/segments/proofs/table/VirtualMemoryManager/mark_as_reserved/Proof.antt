@@ -2,9 +2,7 @@
 use mathlib.Core.Path.{sym, _∙_, refl}
 use borrow.Author.Needs.{needs}
 use Rattle.segments.specs.CallLaws.{marked-refused, mark-reserved, mark-again, mark-full, mark-done, checked-most}
-use Rattle.segments.proofs.table.VirtualMemoryManager.mark_as_reserved.Statement.{
-  statement,
-}
+use Rattle.segments.proofs.table.VirtualMemoryManager.mark_as_reserved.Statement.{statement}
 use Rattle.segments.proofs.table.VirtualMemoryManager.mark_as_reserved.Tie as tie
 
 checked-requires : tie.Need-checked-requires

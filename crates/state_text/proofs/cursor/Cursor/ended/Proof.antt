@@ -1,6 +1,6 @@
 -- `Cursor::ended` meets its contract: nothing is left.
 use mathlib.Core.Path.{refl}
-use Rattle.state_text.specs.Left.{ended-less}
+use Rattle.state_text.specs.LeftLaws.{ended-less}
 use Rattle.state_text.proofs.cursor.Cursor.ended.Statement.{statement}
 use Rattle.state_text.proofs.cursor.Cursor.ended.Tie as tie
 

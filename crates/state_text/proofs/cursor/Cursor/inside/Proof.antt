@@ -1,7 +1,7 @@
 -- `Cursor::inside` meets its contract: a line of the region less is left.
 use mathlib.Core.Path.{refl}
 use native.Mathlib.Omega.{arith}
-use Rattle.state_text.specs.Left.{more-less}
+use Rattle.state_text.specs.LeftLaws.{more-less}
 use Rattle.state_text.proofs.cursor.Cursor.inside.Statement.{statement}
 use Rattle.state_text.proofs.cursor.Cursor.inside.Tie as tie
 

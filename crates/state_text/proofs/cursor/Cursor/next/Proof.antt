@@ -1,6 +1,6 @@
 -- `Cursor::next` meets its contract: a place less is left.
 use mathlib.Core.Path.{refl}
-use Rattle.state_text.specs.Left.{next-less}
+use Rattle.state_text.specs.LeftLaws.{next-less}
 use borrow.Author.Needs.{needs}
 use Rattle.state_text.proofs.cursor.Cursor.next.Statement.{statement}
 use Rattle.state_text.proofs.cursor.Cursor.next.Tie as tie

@@ -1,6 +1,6 @@
 -- `Cursor::past` meets its contract: a line of the region less is left.
 use mathlib.Core.Path.{refl}
-use Rattle.state_text.specs.Left.{more-less}
+use Rattle.state_text.specs.LeftLaws.{more-less}
 use borrow.Author.Needs.{needs}
 use Rattle.state_text.proofs.cursor.Cursor.past.Statement.{statement}
 use Rattle.state_text.proofs.cursor.Cursor.past.Tie as tie

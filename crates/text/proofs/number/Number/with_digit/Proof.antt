@@ -1,7 +1,7 @@
 -- `Number::with_digit` meets its contract, one law for each way through it.
 use native.Mathlib.Omega.{arith}
 use borrow.Author.Needs.{needs}
-use Rattle.text.specs.NumberLaws.{too-high, stays-large, stays-none, fits, pushes, overflows}
+use Rattle.text.specs.NumeralLaws.{too-high, stays-large, stays-none, fits, pushes, overflows}
 use Rattle.text.proofs.number.Number.with_digit.Statement.{statement}
 use Rattle.text.proofs.number.Number.with_digit.Tie as tie
 

@@ -1,0 +1,4 @@
+-- What loads and stores are proved by.
+pub mod MappedFrameLaws
+pub mod Granted
+pub mod AccessLaws

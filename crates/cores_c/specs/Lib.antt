@@ -1,2 +1,0 @@
--- What the exported function is stated by.
-pub mod Loads

@@ -1,0 +1,125 @@
+// The rows of new regions: as they are asked for, and as they are stored.
+ghost use mathlib.Core.Path.{_≡_};
+ghost use Rattle.model.specs.Create.{one, wantedPrivate, wantedFile, wantedShared, placedAt};
+ghost use Rattle.create.specs.Made.{withRange};
+use address::PageTableFlags;
+use address::PhysFrame;
+use address::VirtAddr;
+use model::Found;
+use model::Region;
+
+// A mark in a row.
+fn mark(b: bool) -> u64
+    ensures { λ r. ⌜ r ≡ one b ⌝ }
+{
+    if b {
+        return 1;
+    }
+    0
+}
+
+// A Private region as it is asked for; `copy` for fork policy CopyEager.
+pub fn private_row(size: u64, flags: u64, copy: bool, thread: bool) -> Region
+    ensures { λ r. ⌜ r ≡ wantedPrivate size flags copy thread ⌝ }
+{
+    let fork = mark(copy);
+    let per_thread = mark(thread);
+    Region {
+        kind: 1,
+        start: VirtAddr(0),
+        size: size,
+        flags: PageTableFlags(flags),
+        fork: fork,
+        per_thread: per_thread,
+        pins: 0,
+        file: 0,
+        offset: 0,
+        length: 0,
+        ranged: 0,
+        range: PhysFrame(0),
+    }
+}
+
+// A FileBacked region as it is asked for.
+pub fn file_row(
+    size: u64,
+    flags: u64,
+    copy: bool,
+    thread: bool,
+    file: u64,
+    offset: u64,
+    len: u64,
+) -> Region
+    ensures { λ r. ⌜ r ≡ wantedFile size flags copy thread file offset len ⌝ }
+{
+    let fork = mark(copy);
+    let per_thread = mark(thread);
+    Region {
+        kind: 2,
+        start: VirtAddr(0),
+        size: size,
+        flags: PageTableFlags(flags),
+        fork: fork,
+        per_thread: per_thread,
+        pins: 0,
+        file: file,
+        offset: offset,
+        length: len,
+        ranged: 0,
+        range: PhysFrame(0),
+    }
+}
+
+// A Shared region as it is asked for.
+pub fn shared_row(size: u64) -> Region
+    ensures { λ r. ⌜ r ≡ wantedShared size ⌝ }
+{
+    Region {
+        kind: 3,
+        start: VirtAddr(0),
+        size: size,
+        flags: PageTableFlags(0),
+        fork: 0,
+        per_thread: 0,
+        pins: 0,
+        file: 0,
+        offset: 0,
+        length: 0,
+        ranged: 0,
+        range: PhysFrame(0),
+    }
+}
+
+// A region with its start and a range.
+fn with_range(region: Region, start: u64, ranged: u64, range: u64) -> Region
+    ensures { λ r. ⌜ r ≡ withRange region start ranged range ⌝ }
+{
+    Region {
+        kind: region.kind,
+        start: VirtAddr(start),
+        size: region.size,
+        flags: PageTableFlags(region.flags.0),
+        fork: region.fork,
+        per_thread: region.per_thread,
+        pins: 0,
+        file: region.file,
+        offset: region.offset,
+        length: region.length,
+        ranged: ranged,
+        range: PhysFrame(range),
+    }
+}
+
+// A region as it is stored: with its start, and its range if it has one.
+pub(crate) fn placed_at(region: Region, start: u64, run: Found) -> Region
+    ensures { λ r. ⌜ r ≡ placedAt region start run ⌝ }
+{
+    match run {
+        Found::At(frame) => {
+            return with_range(region, start, 1, frame as u64);
+        }
+        Found::Nothing => {
+            return with_range(region, start, 0, 0);
+        }
+    }
+}

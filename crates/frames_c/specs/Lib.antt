@@ -1,2 +1,0 @@
--- What the exported functions do to lent bytes.
-pub mod Lent

@@ -1,0 +1,47 @@
+// Whether a new segment has a byte of a process's regions: exact on all words, for no sum is taken.
+ghost use mathlib.Core.Path.{_≡_};
+ghost use Prim.Native.Nat.{_<_};
+ghost use lib.ListN.{length};
+ghost use Rattle.model.specs.Layout.{wordCount, machine};
+ghost use Rattle.model.specs.Segments.{reserved};
+ghost use Rattle.reserve.specs.InTheWay.{overUsed};
+use model::Region;
+use rows::sizes::pages_for;
+use rows::slots::region_at;
+
+// Whether a slot is in use by a region whose segment has one of `len` bytes from `start` on.
+fn is_over(region: Region, start: u64, len: u64) -> bool
+    requires { ⌜ 0 < len ⌝ }
+    ensures { λ r. ⌜ r ≡ overUsed start len region ⌝ }
+{
+    if region.kind == 0 {
+        return false;
+    }
+    if region.start.0 <= start {
+        return (start - region.start.0) / 4096 < pages_for(region.size);
+    }
+    if region.size == 0 {
+        return false;
+    }
+    region.start.0 - start < len
+}
+
+// Whether a new segment overlaps one of a process's regions, attached or detached. An empty one overlaps nothing.
+pub fn reserved(words: &[u64], process: usize, start: u64, len: u64) -> bool
+    requires { ⌜ length (now words) ≡ wordCount ⌝ }
+    requires { ⌜ process < 8 ⌝ }
+    ensures { λ r. ⌜ r ≡ reserved (machine (now (words .entry))) process start len ⌝ }
+{
+    if len == 0 {
+        return false;
+    }
+    let mut i = 0;
+    while i < 64 {
+        let region = region_at(words, process * 64 + i);
+        if is_over(region, start, len) {
+            return true;
+        }
+        i += 1;
+    }
+    false
+}

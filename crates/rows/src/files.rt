@@ -1,0 +1,50 @@
+// Files, 8 rows of 3 words from word 11818, and the number of files, word 11843.
+ghost use mathlib.Core.Path.{_≡_};
+ghost use Prim.Native.Nat.{_<_};
+ghost use lib.ListN.{length, getD, set};
+ghost use Rattle.model.specs.Layout.{wordCount, machine};
+ghost use Rattle.model.specs.Machine.{noFile};
+ghost use Rattle.rows.specs.With.{withFiles, withFileCount};
+use model::File;
+
+// The row of a file.
+pub fn file_at(words: &[u64], i: usize) -> File
+    requires { ⌜ length (now words) ≡ wordCount ⌝ }
+    requires { ⌜ i < 8 ⌝ }
+    ensures { λ r. ⌜ r ≡ getD (machine (now (words .entry)) .files) i noFile ⌝ }
+{
+    let at = 11818 + i * 3;
+    File {
+        readable: words[at],
+        offset: words[at + 1],
+        len: words[at + 2],
+    }
+}
+
+// Puts a file's row.
+pub fn put_file(words: &mut [u64], i: usize, row: File)
+    requires { ⌜ length (now words) ≡ wordCount ⌝ }
+    requires { ⌜ i < 8 ⌝ }
+    ensures { λ _. ⌜ machine (now (words .exit)) ≡ withFiles (machine (now (words .entry))) (set (machine (now (words .entry)) .files) i row) ⌝ }
+{
+    let at = 11818 + i * 3;
+    words[at] = row.readable;
+    words[at + 1] = row.offset;
+    words[at + 2] = row.len;
+}
+
+// How many files there are.
+pub fn file_count(words: &[u64]) -> u64
+    requires { ⌜ length (now words) ≡ wordCount ⌝ }
+    ensures { λ r. ⌜ r ≡ machine (now (words .entry)) .fileCount ⌝ }
+{
+    words[11843]
+}
+
+// Puts the number of files.
+pub fn put_file_count(words: &mut [u64], count: u64)
+    requires { ⌜ length (now words) ≡ wordCount ⌝ }
+    ensures { λ _. ⌜ machine (now (words .exit)) ≡ withFileCount (machine (now (words .entry))) count ⌝ }
+{
+    words[11843] = count;
+}

@@ -1,0 +1,55 @@
+-- `Lone::reserve` meets its contract, from what the manager ensures.
+use borrow.Author.Tests.{not-true, not-false}
+use borrow.Author.Needs.{needs}
+use Rattle.script_step.specs.LoneStep.{reserveStep}
+use Rattle.script_step.specs.LoneStepLaws.{no-manager, reserve-is}
+use Rattle.script_step.proofs.lone.Lone.reserve.Statement.{statement}
+use Rattle.script_step.proofs.lone.Lone.reserve.Tie as tie
+
+says-requires : tie.Need-says-requires
+says-requires c κs = search needs
+
+returns : tie.Need-returns
+unfolding reserveStep
+returns c = no-manager (c .before .before .before .args .self) (c .says .result) _ (not-true _ (c .before .if1 .taken)) (c .says .ensures)
+
+reserve-bytes-requires : tie.Need-reserve-bytes-requires
+reserve-bytes-requires c κs = search needs
+
+enum-known-answer : tie.Need-enum-known-answer
+enum-known-answer c = search needs
+
+made-requires : tie.Need-made-requires
+made-requires c κs = search needs
+
+enum-known-answer-2 : tie.Need-enum-known-answer-2
+enum-known-answer-2 c = search needs
+
+made-requires-2 : tie.Need-made-requires-2
+made-requires-2 c κs = search needs
+
+returns-2 : tie.Need-returns-2
+returns-2 c =
+    let a = c .before .before .before .before .before .before .before .before .before .args in
+    let d = c .before .before .before .before .before .reserve-bytes in
+    reserve-is (a .self) (c .made .result) (not-false _ (c .before .before .before .before .before .before .before .if1 .left)) (a .len) (d .result) _ (d .ensures) (c .before .before .answer .given .1) (c .made .ensures)
+
+returns-3 : tie.Need-returns-3
+returns-3 c =
+    let a = c .before .before .before .before .before .before .before .before .before .args in
+    let d = c .before .before .before .before .before .reserve-bytes in
+    reserve-is (a .self) (c .made2 .result) (not-false _ (c .before .before .before .before .before .before .before .if1 .left)) (a .len) (d .result) _ (d .ensures) (c .before .before .answer2 .given .1) (c .made2 .ensures)
+
+pub reserve-spec : {M : Type 1} → statement M
+reserve-spec =
+    tie.close
+    (tie.spec
+    says-requires
+    returns
+    reserve-bytes-requires
+    enum-known-answer
+    made-requires
+    enum-known-answer-2
+    made-requires-2
+    returns-2
+    returns-3)

@@ -1,0 +1,78 @@
+-- `tally_entries` counts the entries of each frame. The invariant: a count for each mark of the holders passed.
+use Prim.Native.Nat.{_-_, _≤_}
+use native.Mathlib.Omega.{arith}
+use borrow.Author.Needs.{needs}
+use Rattle.sound_frames.specs.HeldLaws.{held-entry}
+use Rattle.sound_frames.specs.Tally.{Counts}
+use Rattle.sound_frames.specs.TallyLaws.{counts-few, counts-more, counts-skip, counts-to}
+use Rattle.sound_frames.proofs.holders.tally_entries.Statement.{statement}
+use Rattle.sound_frames.proofs.holders.tally_entries.Tie as tie
+
+abbrev Inv-loop : tie.InvT-loop
+Inv-loop words counts₀ k₀ counts k = (k ≤ 512) × Counts words counts k
+
+abbrev μ-loop : tie.MeasureT-loop
+μ-loop words counts₀ k₀ counts k = 512 - k
+
+loop-holds : tie.Need-loop-holds Inv-loop μ-loop
+loop-holds c = (omega arith, c .before .before .pre .1)
+
+entry-at-requires : tie.Need-entry-at-requires Inv-loop μ-loop
+entry-at-requires c κs = search needs
+
+by-entry-requires : tie.Need-by-entry-requires Inv-loop μ-loop
+by-entry-requires c κs = search needs
+
+add-k : tie.Need-add-k Inv-loop μ-loop
+add-k c = let h = c .before .before .loop-test .taken in omega arith
+
+loop-less : tie.Need-loop-less Inv-loop μ-loop
+loop-less c = let h = c .before .before .before .loop-test .taken in omega arith
+
+loop-again : tie.Need-loop-again Inv-loop μ-loop
+loop-again c = let h = c .before .before .before .loop-test .taken in (omega arith, counts-skip _ _ _ (c .before .before .before .before .loop .inv .1) (omega arith) (c .before .by-entry .result) (held-entry (c .before .before .before .before .before .before .before .args .words .now) (c .before .before .before .before .loop .k) _ (c .before .before .before .loop-test .taken) (c .before .before .entry-at .result) (c .before .before .entry-at .ensures) (c .before .by-entry .ensures .0)) (c .if1 .taken))
+
+mul-counts : tie.Need-mul-counts Inv-loop μ-loop
+mul-counts c = let l = c .before .by-entry .ensures .1 in let n = c .if1 .left in let s = c .before .before .before .before .loop .inv .1 .sized in omega arith
+
+slice-read-counts : tie.Need-slice-read-counts Inv-loop μ-loop
+slice-read-counts c = let l = c .before .before .by-entry .ensures .1 in let n = c .before .if1 .left in let s = c .before .before .before .before .before .loop .inv .1 .sized in omega arith
+
+add-counts : tie.Need-add-counts Inv-loop μ-loop
+add-counts c = let l = c .before .before .by-entry .ensures .1 in let n = c .before .if1 .left in let few = counts-few _ _ _ (c .before .before .before .before .before .loop .inv .1) (c .before .before .by-entry .result .frame) (omega arith) in let h = c .before .before .before .before .loop-test .taken in omega arith
+
+slice-write-counts : tie.Need-slice-write-counts Inv-loop μ-loop
+slice-write-counts c = let l = c .before .before .by-entry .ensures .1 in let n = c .before .if1 .left in let s = c .before .before .before .before .before .loop .inv .1 .sized in omega arith
+
+loop-less-2 : tie.Need-loop-less-2 Inv-loop μ-loop
+loop-less-2 c = let h = c .before .before .before .before .loop-test .taken in omega arith
+
+loop-again-2 : tie.Need-loop-again-2 Inv-loop μ-loop
+loop-again-2 c = let l = c .before .before .by-entry .ensures .1 in let n = c .before .if1 .left in let h = c .before .before .before .before .loop-test .taken in (omega arith, counts-more _ _ _ (c .before .before .before .before .before .loop .inv .1) (omega arith) (c .before .before .by-entry .result) (held-entry (c .before .before .before .before .before .before .before .before .args .words .now) (c .before .before .before .before .before .loop .k) _ (c .before .before .before .before .loop-test .taken) (c .before .before .before .entry-at .result) (c .before .before .before .entry-at .ensures) (c .before .before .by-entry .ensures .0)) (omega arith))
+
+same-length : tie.Need-same-length Inv-loop μ-loop
+same-length c = let a = c .before .loop .inv .1 .sized in let b = c .before .before .before .before .pre .1 .sized in omega arith
+
+returns : tie.Need-returns Inv-loop μ-loop
+returns c = let h = c .loop-test .left in let l = c .before .loop .inv .0 in counts-to _ _ _ (c .before .loop .inv .1) 512 (omega arith)
+
+pub tally-entries-spec : {M : Type 1} → statement M
+tally-entries-spec =
+    tie.close
+    (tie.spec
+    Inv-loop
+    μ-loop
+    loop-holds
+    entry-at-requires
+    by-entry-requires
+    add-k
+    loop-less
+    loop-again
+    mul-counts
+    slice-read-counts
+    add-counts
+    slice-write-counts
+    loop-less-2
+    loop-again-2
+    same-length
+    returns)

@@ -1,0 +1,54 @@
+-- `ordered` tests the list of every process. The invariant: those that are left give the same answer.
+use mathlib.Core.Path.{refl, sym, _∙_}
+use Prim.Native.Nat.{_-_}
+use native.Mathlib.Omega.{arith}
+use borrow.Author.Needs.{needs}
+use borrow.Author.Tests.{not-true, not-false}
+use Rattle.model.specs.Layout.{machine}
+use Rattle.model.specs.Machine.{noProcess}
+use Rattle.model.specs.SoundTest.{orderedb}
+use Rattle.laws.specs.EveryLaws.{Every, every-first, every-fails, every-more, every-all}
+use Rattle.lookup.specs.LookupsLaws.{processes-length}
+use Rattle.sound_lists.proofs.lists.ordered.Statement.{statement}
+use Rattle.sound_lists.proofs.lists.ordered.Tie as tie
+
+abbrev Inv-loop : tie.InvT-loop
+Inv-loop words i₀ i = Every (orderedb (machine words)) (machine words .processes) 8 i
+
+abbrev μ-loop : tie.MeasureT-loop
+μ-loop words i₀ i = 8 - i
+
+loop-holds : tie.Need-loop-holds Inv-loop μ-loop
+loop-holds c = let w = c .before .args .words .now in every-first (orderedb (machine w)) (machine w .processes) 8 (processes-length w)
+
+process-is-ordered-requires : tie.Need-process-is-ordered-requires Inv-loop μ-loop
+process-is-ordered-requires c κs = search needs
+
+returns : tie.Need-returns Inv-loop μ-loop
+returns c = let w = c .before .before .before .before .before .args .words .now in every-fails (orderedb (machine w)) (machine w .processes) 8 (processes-length w) _ (c .before .before .before .loop .inv) (c .before .before .loop-test .taken) noProcess _ refl (sym (c .before .process-is-ordered .ensures) ∙ not-true _ (c .if1 .taken))
+
+add-i : tie.Need-add-i Inv-loop μ-loop
+add-i c = omega arith
+
+loop-less : tie.Need-loop-less Inv-loop μ-loop
+loop-less c = omega arith
+
+loop-again : tie.Need-loop-again Inv-loop μ-loop
+loop-again c = let w = c .before .before .before .before .before .args .words .now in every-more (orderedb (machine w)) (machine w .processes) 8 (processes-length w) _ (c .before .before .before .loop .inv) (c .before .before .loop-test .taken) noProcess _ refl (sym (c .before .process-is-ordered .ensures) ∙ not-false _ (c .if1 .left))
+
+returns-2 : tie.Need-returns-2 Inv-loop μ-loop
+returns-2 c = let w = c .before .before .before .args .words .now in every-all (orderedb (machine w)) (machine w .processes) 8 (processes-length w) _ (c .before .loop .inv) (c .loop-test .left)
+
+pub ordered-spec : {M : Type 1} → statement M
+ordered-spec =
+    tie.close
+    (tie.spec
+    Inv-loop
+    μ-loop
+    loop-holds
+    process-is-ordered-requires
+    returns
+    add-i
+    loop-less
+    loop-again
+    returns-2)

@@ -1,0 +1,22 @@
+-- What the tests of mapped pages and page entries are proved by.
+pub mod Laid
+pub mod MappedHome
+pub mod MappedHomeLaws
+pub mod MappedFit
+pub mod MappedFitLaws
+pub mod MappedMarks
+pub mod MappedMarksLaws
+pub mod MappedSpans
+pub mod MappedSpansLaws
+pub mod MappedTests
+pub mod MappedTestsLaws
+pub mod MappedEntries
+pub mod MappedEntriesLaws
+pub mod MappedRows
+pub mod MappedRowsLaws
+pub mod SortedRuns
+pub mod SortedRunsLaws
+pub mod Once
+pub mod OnceLaws
+pub mod Rising
+pub mod RisingLaws

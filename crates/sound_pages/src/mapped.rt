@@ -1,0 +1,334 @@
+// R4 and R5: a mapped page starts in one attached region, its frame is that region's backing of the page, and its flags fit.
+ghost use mathlib.Core.Path.{_≡_};
+ghost use mathlib.Core.Bool.{_&&_, _||_, not};
+ghost use Prim.Native.Nat.{_+_, _≤_, _<_};
+ghost use lib.ListN.{length};
+ghost use lib.Dec.{eqb};
+ghost use Rattle.model.specs.Layout.{wordCount, machine};
+ghost use Rattle.model.specs.Machine.{mappedOf, regionAt};
+ghost use Rattle.model.specs.Lookup.{rowFound};
+ghost use Rattle.model.specs.SoundTest.{flaggedb, r4b, r5b};
+ghost use Rattle.paging.specs.Order.{Rising};
+ghost use Rattle.sound_pages.specs.Laid.{Laid};
+ghost use Rattle.sound_pages.specs.MappedHome.{homeAt};
+ghost use Rattle.sound_pages.specs.MappedFit.{allFit, allows, rangeAllows};
+ghost use Rattle.sound_pages.specs.MappedMarks.{ofProcess, Seen};
+ghost use Rattle.sound_pages.specs.MappedTests.{isOwn};
+ghost use Rattle.sound_pages.specs.MappedSpans.{ProcessOf, Spanned, Unspanned, Spans};
+ghost use Rattle.sound_pages.specs.MappedEntries.{RowOf, After, AfterAll};
+ghost use Rattle.sound_pages.specs.MappedRows.{AttachedAt, holdsIn, fittingHome};
+use address::Page;
+use address::PageTableFlags;
+use address::VirtAddr;
+use lookup::attached::region_for;
+use lookup::attached::slot_contains;
+use lookup::backed::backing_from;
+use lookup::backed::pages_past;
+use model::Entry;
+use model::Found;
+use model::Mapping;
+use model::Region;
+use paging::search::mapped_count;
+use paging::search::row_at;
+use paging::search::row_for;
+use paging::search::stands_at;
+use rows::pages::entry_at;
+use rows::slots::region_at;
+
+// What an entry tells: its page's mapping fits, and the row to look at first for the next entry; or it does not.
+enum Marking {
+    Fits(usize),
+    Misfits,
+}
+
+// Whether flags are a region's own, or those without WRITABLE.
+fn is_own(own: PageTableFlags, flags: PageTableFlags) -> bool
+    ensures { λ r. ⌜ r ≡ isOwn (own .0) (flags .0) ⌝ }
+{
+    if flags.0 == own.0 {
+        return true;
+    }
+    let without = own.read_only();
+    flags.0 == without.0
+}
+
+// R5 of a mapping's flags, its region and the holders of the page's backing.
+fn flags_fit(region: Region, flags: PageTableFlags, holders: u64) -> bool
+    ensures { λ r. ⌜ r ≡ flaggedb region (flags .0) holders ⌝ }
+{
+    if region.kind == 3 {
+        return flags.0 == 0x8000_0000_0000_0007;
+    }
+    if !is_own(region.flags, flags) {
+        return false;
+    }
+    if flags.is_writable() {
+        return holders == 1;
+    }
+    true
+}
+
+// Whether an entry is of a region of a process.
+fn is_of(entry: Entry, process: usize) -> bool
+    requires { ⌜ process < 8 ⌝ }
+    ensures { λ r. ⌜ r ≡ ofProcess process entry ⌝ }
+{
+    let first = process as u64 * 64;
+    if first < entry.owner {
+        return entry.owner <= first + 64;
+    }
+    false
+}
+
+// Whether a mapping is one that an entry allows: its frame, and flags that fit its region and the frame's holders.
+fn entry_allows(words: &[u64], entry: Entry, mapping: Mapping) -> bool
+    requires { ⌜ length (now words) ≡ wordCount ⌝ }
+    requires { ⌜ 1 ≤ entry .owner ⌝ }
+    requires { ⌜ entry .owner ≤ 512 ⌝ }
+    ensures { λ r. ⌜ r ≡ allows (machine (now (words .entry))) entry mapping ⌝ }
+{
+    if entry.frame.0 != mapping.frame.0 {
+        return false;
+    }
+    let owner = region_at(words, (entry.owner - 1) as usize);
+    let backing = backing_from(words, entry.frame);
+    flags_fit(owner, mapping.flags, backing.holders)
+}
+
+// The row in which a page is mapped: the near one, or else by the search.
+fn row_near(words: &[u64], process: usize, page: Page, near: usize) -> Found
+    requires { ⌜ length (now words) ≡ wordCount ⌝ }
+    requires { ⌜ process < 8 ⌝ }
+    ensures { λ r. ⌜ rowFound r < 128 ⌝ }
+    ensures { λ r. ⌜ (Rising (mappedOf (machine (now (words .entry))) process) → RowOf (mappedOf (machine (now (words .entry))) process) (page .0) r) ⌝ }
+{
+    if stands_at(words, process, near, page) {
+        return Found::At(near);
+    }
+    row_for(words, process, page)
+}
+
+// Marks the row in which the page of entry i is mapped, if the entry is of the process and allows the mapping.
+fn mark_entry(words: &[u64], process: usize, i: usize, near: usize, marks: &mut [u8]) -> Marking
+    requires { ⌜ length (now words) ≡ wordCount ⌝ }
+    requires { ⌜ process < 8 ⌝ }
+    requires { ⌜ i < 512 ⌝ }
+    requires { ⌜ length (now marks) ≡ 128 ⌝ }
+    ensures { λ r. ⌜ (Laid (machine (now (words .entry))) → Seen (machine (now (words .entry))) process i (now (marks .entry)) → After (machine (now (words .entry))) process (i + 1) (now (marks .exit)) r) ⌝ }
+{
+    let entry = entry_at(words, i);
+    if !is_of(entry, process) {
+        return Marking::Fits(near);
+    }
+    let Found::At(row) = row_near(words, process, entry.page, near) else {
+        return Marking::Fits(near);
+    };
+    let mapping = row_at(words, process, row);
+    if !entry_allows(words, entry, mapping) {
+        return Marking::Misfits;
+    }
+    marks[row] = 1;
+    Marking::Fits(row + 1)
+}
+
+// Marks the mapped rows whose pages have an entry; no where a mapping is not what its entry allows. The process's entries lie from
+// one row up to another. They mostly come in page order, so each is looked for first in the row after the last one's.
+fn mark_entries(words: &[u64], process: usize, from: usize, to: usize, marks: &mut [u8]) -> bool
+    requires { ⌜ length (now words) ≡ wordCount ⌝ }
+    requires { ⌜ process < 8 ⌝ }
+    requires { ⌜ (from ≤ 512) × (to ≤ 512) ⌝ }
+    requires { ⌜ length (now marks) ≡ 128 ⌝ }
+    ensures { λ r. ⌜ (Laid (machine (now (words .entry))) → Spanned (machine (now (words .entry))) process from to → Seen (machine (now (words .entry))) process 0 (now (marks .entry)) → AfterAll (machine (now (words .entry))) process (now (marks .exit)) r) ⌝ }
+{
+    let mut near = 0;
+    let mut i = from;
+    while i < to {
+        let Marking::Fits(next) = mark_entry(words, process, i, near, marks) else {
+            return false;
+        };
+        near = next;
+        i += 1;
+    }
+    true
+}
+
+// Whether a mapping is one that a region's range allows. The frame is compared by its offset: the sum may not fit.
+fn range_allows(words: &[u64], region: Region, mapping: Mapping) -> bool
+    requires { ⌜ length (now words) ≡ wordCount ⌝ }
+    ensures { λ r. ⌜ r ≡ rangeAllows (machine (now (words .entry))) region mapping ⌝ }
+{
+    if region.ranged != 1 {
+        return false;
+    }
+    let backing = backing_from(words, region.range);
+    let offset = pages_past(region, mapping.page);
+    if backing.len <= offset {
+        return false;
+    }
+    if mapping.frame.0 < region.range.0 {
+        return false;
+    }
+    if mapping.frame.0 - region.range.0 != offset {
+        return false;
+    }
+    flags_fit(region, mapping.flags, backing.holders)
+}
+
+// Whether the region in a slot that was found holds an address.
+fn found_contains(words: &[u64], process: usize, found: Found, addr: VirtAddr) -> bool
+    requires { ⌜ length (now words) ≡ wordCount ⌝ }
+    requires { ⌜ process < 8 ⌝ }
+    ensures { λ r. ⌜ r ≡ holdsIn (machine (now (words .entry))) process (addr .0) found ⌝ }
+{
+    match found {
+        Found::At(slot) => slot_contains(words, process, slot, addr),
+        Found::Nothing => false,
+    }
+}
+
+// The attached region in which a page starts: the last one, or else by the search. No region holds a page past the user addresses.
+fn home_near(words: &[u64], process: usize, page: Page, last: Found) -> Found
+    requires { ⌜ length (now words) ≡ wordCount ⌝ }
+    requires { ⌜ process < 8 ⌝ }
+    ensures { λ r. ⌜ (Laid (machine (now (words .entry))) → AttachedAt (machine (now (words .entry))) process last → r ≡ homeAt (machine (now (words .entry))) process (page .0)) ⌝ }
+{
+    if page.0 >= 0x10_0000_0000_0000 {
+        return Found::Nothing;
+    }
+    let start = VirtAddr(page.0 * 4096);
+    if found_contains(words, process, last, start) {
+        return last;
+    }
+    region_for(words, process, start)
+}
+
+// Whether a mapping's row is marked, or else its home's range allows it.
+fn is_backed(words: &[u64], process: usize, slot: usize, mapping: Mapping, mark: u8) -> bool
+    requires { ⌜ length (now words) ≡ wordCount ⌝ }
+    requires { ⌜ process < 8 ⌝ }
+    ensures { λ r. ⌜ (slot < 64 → r ≡ (not (eqb mark 0) || rangeAllows (machine (now (words .entry))) (regionAt (machine (now (words .entry))) process slot) mapping)) ⌝ }
+{
+    if slot >= 64 {
+        return false;
+    }
+    if mark != 0 {
+        return true;
+    }
+    let region = region_at(words, process * 64 + slot);
+    range_allows(words, region, mapping)
+}
+
+// The home of a mapping that fits.
+fn fitting_home(words: &[u64], process: usize, mapping: Mapping, mark: u8, last: Found) -> Found
+    requires { ⌜ length (now words) ≡ wordCount ⌝ }
+    requires { ⌜ process < 8 ⌝ }
+    ensures { λ r. ⌜ (Laid (machine (now (words .entry))) → AttachedAt (machine (now (words .entry))) process last → r ≡ fittingHome (machine (now (words .entry))) process mapping mark) ⌝ }
+{
+    let Found::At(slot) = home_near(words, process, mapping.page, last) else {
+        return Found::Nothing;
+    };
+    if is_backed(words, process, slot, mapping, mark) {
+        return Found::At(slot);
+    }
+    Found::Nothing
+}
+
+// Whether every mapped page of a process fits, where those that have an entry are marked. Pages rise, so each is looked for first
+// in the region of the one before.
+fn rows_fit(words: &[u64], process: usize, marks: &[u8]) -> bool
+    requires { ⌜ length (now words) ≡ wordCount ⌝ }
+    requires { ⌜ process < 8 ⌝ }
+    requires { ⌜ length (now marks) ≡ 128 ⌝ }
+    ensures { λ r. ⌜ (Laid (machine (now (words .entry))) → Seen (machine (now (words .entry))) process 512 (now (marks .entry)) → r ≡ allFit (machine (now (words .entry))) process) ⌝ }
+{
+    let n = mapped_count(words, process);
+    let mut last = Found::Nothing;
+    let mut i = 0;
+    while i < n {
+        let mapping = row_at(words, process, i);
+        let Found::At(slot) = fitting_home(words, process, mapping, marks[i], last) else {
+            return false;
+        };
+        last = Found::At(slot);
+        i += 1;
+    }
+    true
+}
+
+// R4 and R5 of a process whose entries lie from one row up to another: one pass over these, then one over its mapped pages.
+fn process_mapped_fit(words: &[u64], process: usize, from: usize, to: usize) -> bool
+    requires { ⌜ length (now words) ≡ wordCount ⌝ }
+    requires { ⌜ process < 8 ⌝ }
+    requires { ⌜ (from ≤ 512) × (to ≤ 512) ⌝ }
+    ensures { λ r. ⌜ (Laid (machine (now (words .entry))) → Spanned (machine (now (words .entry))) process from to → r ≡ allFit (machine (now (words .entry))) process) ⌝ }
+{
+    let n = mapped_count(words, process);
+    if n == 0 {
+        return true;
+    }
+    let mut marks = [0u8; 128];
+    if !mark_entries(words, process, from, to, &mut marks) {
+        return false;
+    }
+    rows_fit(words, process, &marks)
+}
+
+// The process of an entry's owner; 8 where it has none.
+fn process_of(entry: Entry) -> usize
+    ensures { λ r. ⌜ ProcessOf entry r ⌝ }
+{
+    if entry.owner == 0 {
+        return 8;
+    }
+    if 512 < entry.owner {
+        return 8;
+    }
+    ((entry.owner - 1) / 64) as usize
+}
+
+// Of each process the row of the first entry, 512 where it has none, and the row after the last. An entry of the same process as
+// the one before is not its first.
+fn span_entries(words: &[u64], firsts: &mut [usize], pasts: &mut [usize])
+    requires { ⌜ length (now words) ≡ wordCount ⌝ }
+    requires { ⌜ Unspanned (now firsts) (now pasts) ⌝ }
+    ensures { λ _. ⌜ Spans (machine (now (words .entry))) (now (firsts .exit)) (now (pasts .exit)) 512 ⌝ }
+{
+    let mut last = 8;
+    let mut i = 0;
+    while i < 512 {
+        let row = i;
+        let entry = entry_at(words, row);
+        let process = process_of(entry);
+        i += 1;
+        if process == 8 {
+            continue;
+        }
+        pasts[process] = i;
+        if process == last {
+            continue;
+        }
+        last = process;
+        if firsts[process] != 512 {
+            continue;
+        }
+        firsts[process] = row;
+    }
+}
+
+// R4 and R5 of every process.
+pub fn mapped_fit(words: &[u64]) -> bool
+    requires { ⌜ length (now words) ≡ wordCount ⌝ }
+    ensures { λ r. ⌜ (Laid (machine (now (words .entry))) → r ≡ (r4b (machine (now (words .entry))) && r5b (machine (now (words .entry))))) ⌝ }
+{
+    let mut firsts: [usize; 8] = [512; 8];
+    let mut pasts: [usize; 8] = [0; 8];
+    span_entries(words, &mut firsts, &mut pasts);
+    let mut i = 0;
+    while i < 8 {
+        if !process_mapped_fit(words, i, firsts[i], pasts[i]) {
+            return false;
+        }
+        i += 1;
+    }
+    true
+}

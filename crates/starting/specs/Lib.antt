@@ -1,3 +1,0 @@
--- What start does, and its laws.
-pub mod Start
-pub mod StartLaws

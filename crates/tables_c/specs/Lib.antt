@@ -1,2 +1,0 @@
--- What the exported functions are stated and proved by.
-pub mod Lent
