@@ -39,8 +39,8 @@ pub record Firsts (l : List Held) (marks : List ℕ) (k : ℕ) : Type 0 where
   pub low : k ≤ 1024
   pub sized : length marks ≡ 256
   pub few : (f : ℕ) → f < 256 → getD marks f 0 ≤ k
-  first : (f : ℕ) → f < 256 → getD marks f 0 ≢ 0 → rowAt l (getD marks f 0 - 1) .frame ≡ f
-  same : (j : ℕ) → j < k → rowAt l j .frame < 256 → (getD marks (rowAt l j .frame) 0 ≢ 0) × Same (rowAt l (getD marks (rowAt l j .frame) 0 - 1)) (rowAt l j)
+  pub first : (f : ℕ) → f < 256 → getD marks f 0 ≢ 0 → rowAt l (getD marks f 0 - 1) .frame ≡ f
+  pub same : (j : ℕ) → j < k → rowAt l j .frame < 256 → (getD marks (rowAt l j .frame) 0 ≢ 0) × Same (rowAt l (getD marks (rowAt l j .frame) 0 - 1)) (rowAt l j)
 
 -- holders of one frame are alike
 abbrev pub Alike : List Held → Type 0
