@@ -1,6 +1,6 @@
--- POSIX.1-2017 on private mappings and fork: what a process sees, and what is to hold of it. Statements; their proofs over the calls come later.
+-- POSIX.1-2017 on private mappings and fork: what a process sees, and what is to hold of it. Statements; crate `isolation` proves them of the calls.
 use mathlib.Core.Path.{_≡_}
-use mathlib.Core.Logic.{_≢_}
+use mathlib.Core.Logic.{_⊎_, _≢_}
 use mathlib.Core.Bool.{Bool, true, false, cond}
 use Prim.Native.Nat.{ℕ, _+_, _*_, _/_, _%_}
 use lib.ListN.{getD}
@@ -56,10 +56,14 @@ pub record PrivateAt (s : State) (p a : ℕ) : Type 0 where
 abbrev pub LoadIsView : Type 0
 LoadIsView = (s : State) (p a b : ℕ) → Sound s → load s p a .answer ≡ Loaded.Byte b → view s p a ≡ At b
 
--- a read fault that succeeds brings the view to the load, where the region has user access (a page mapped before it lost it stays Denied)
+-- a region whose pages its process may read: one with user access, or a Shared one, whose row has no flags and whose mappings have all four
+abbrev pub Readable : Region → Type 0
+Readable r = (isUser (r .flags .0) ≡ true) ⊎ (r .kind ≡ 3)
+
+-- a read fault that succeeds brings the view to the load, private or Shared (a page mapped before its region lost user access stays Denied)
 abbrev pub FaultShowsView : Type 0
 FaultShowsView =
-    (s : State) (p a b slot : ℕ) → Sound s → homeSlot s p a ≡ At slot → isUser (regionAt (s .machine) p slot .flags .0) ≡ true
+    (s : State) (p a b slot : ℕ) → Sound s → homeSlot s p a ≡ At slot → Readable (regionAt (s .machine) p slot)
     → view s p a ≡ At b → fault s p a false .answer ≡ Yes → load (fault s p a false .state) p a .answer ≡ Loaded.Byte b
 
 -- no fault changes what anyone sees
@@ -86,11 +90,14 @@ frameIn s p page (At slot) = frameBy (backing (s .machine) p slot page)
 abbrev pub frameAt : State → ℕ → ℕ → Found
 frameAt s p a = frameIn s p (a / 4096) (homeSlot s p a)
 
--- mmap(), DESCRIPTION: "If MAP_SHARED is specified, write references shall change the underlying object": every process sees the store through the same frame
+-- mmap(), DESCRIPTION: "If MAP_SHARED is specified, write references shall change the underlying object": every process sees the store through the
+-- same frame, and no one sees another byte changed
+pub record StoredShared (s after : State) (f offset b : ℕ) : Type 0 where
+  pub seen : (q c : ℕ) → frameAt s q c ≡ At f → c % 4096 ≡ offset → view after q c ≡ At b
+  pub elsewhere : (q c : ℕ) → (frameAt s q c ≢ At f) ⊎ (c % 4096 ≢ offset) → view after q c ≡ view s q c
+
 abbrev pub SharedStore : Type 0
-SharedStore =
-    (s : State) (p a b q c f : ℕ) → Sound s → kindAt s p a ≡ 3 → store s p a b .answer ≡ Yes
-    → frameAt s p a ≡ At f → frameAt s q c ≡ At f → c % 4096 ≡ a % 4096 → view (store s p a b .state) q c ≡ At b
+SharedStore = (s : State) (p a b f : ℕ) → Sound s → kindAt s p a ≡ 3 → store s p a b .answer ≡ Yes → frameAt s p a ≡ At f → StoredShared s (store s p a b .state) f (a % 4096) b
 
 -- ---- fork(), DESCRIPTION: "Memory mappings created in the parent shall be retained in the child process. MAP_PRIVATE mappings inherited from the
 -- parent shall also be MAP_PRIVATE mappings in the child, and any modifications to the data in these mappings made by the parent prior to
@@ -99,6 +106,8 @@ SharedStore =
 pub record Inherited (s after : State) (p q a : ℕ) : Type 0 where
   pub seen : view after q a ≡ view s p a
   pub kind : kindAt after q a ≡ kindAt s p a
+  -- a Shared mapping is retained as one of the same object: what either side stores there later, both see (SharedStore)
+  pub object : kindAt s p a ≡ 3 → frameAt after q a ≡ frameAt s p a
 
 -- the child's view is the parent's at the fork, for every region that is not one thread's own
 abbrev pub ForkInherits : Type 0
@@ -106,15 +115,18 @@ ForkInherits =
     (s : State) (p q a slot : ℕ) → Sound s → clone s p q .answer ≡ Yes → homeSlot s p a ≡ At slot → regionAt (s .machine) p slot .«per_thread» ≡ 0
     → Inherited s (clone s p q .state) p q a
 
--- the parent, and everyone else, sees what it saw
+-- the parent, and everyone else, sees what it saw, and the child too in the regions that it had; whatever the answer
 abbrev pub ForkKeepsOthers : Type 0
-ForkKeepsOthers = (s : State) (p q : ℕ) → Sound s → (r c : ℕ) → r ≢ q → view (clone s p q .state) r c ≡ view s r c
+ForkKeepsOthers = (s : State) (p q : ℕ) → Sound s → (r c : ℕ) → (r ≢ q) ⊎ (homeSlot s r c ≢ Nothing) → view (clone s p q .state) r c ≡ view s r c
 
 -- the same of one region
 abbrev pub CloneInherits : Type 0
 CloneInherits =
     (s : State) (p q a c slot : ℕ) → Sound s → cloneRegion s p a q .answer ≡ Yes → regionFor (s .machine) p a ≡ At slot → homeSlot s p c ≡ At slot
     → Inherited s (cloneRegion s p a q .state) p q c
+
+abbrev pub CloneKeepsOthers : Type 0
+CloneKeepsOthers = (s : State) (p a q : ℕ) → Sound s → (r c : ℕ) → (r ≢ q) ⊎ (homeSlot s r c ≢ Nothing) → view (cloneRegion s p a q .state) r c ≡ view s r c
 
 -- fork(): "Any modifications to the data in MAP_PRIVATE mappings made by the parent after fork() returns shall be visible only to the parent.
 -- Modifications to the data in MAP_PRIVATE mappings made by the child shall be visible only to the child." This is PrivateStore on every sound
@@ -130,3 +142,4 @@ pub record Posix : Type 0 where
   pub fork : ForkInherits
   pub keeps : ForkKeepsOthers
   pub clone : CloneInherits
+  pub cloneKeeps : CloneKeepsOthers

@@ -1,0 +1,96 @@
+-- Holders counted over the rows of a table, and counted again once a row is another.
+use mathlib.Core.Path.{_≡_, refl, ap, _∙_}
+use mathlib.Core.Logic.{_≢_}
+use mathlib.Core.Bool.{Bool, true, false, _&&_, not, cond}
+use mathlib.Core.List.{List, [], _∷_, map}
+use Prim.Native.Nat.{ℕ, zero, suc, _+_, _<_}
+use native.Mathlib.Nat.{le-of-suc-le-suc, not-suc-le-zero}
+use native.Mathlib.Omega.{arith}
+use lib.ListN.{length, getD, set}
+use lib.Dec.{eqb}
+use borrow.Author.Tests.{eq-eqb, ne-eqb}
+use Rattle.model.specs.declared.Entry.{Entry}
+use Rattle.model.specs.declared.Region.{Region}
+use Rattle.laws.specs.Lists.{keep}
+use Rattle.model.specs.Machine.{Machine}
+use Rattle.model.specs.Lookup.{count, isUsed, isRanged}
+use Rattle.model.specs.Sound.{Hold, holds, entryHolds, rangeHolds, holdersOf, Used}
+use Rattle.keeping.specs.CountLaws.{count-append}
+use Rattle.keeping.specs.Owing.{entryHold, rangeHold}
+
+abbrev pub oneIf : Bool → ℕ
+oneIf b = cond b 1 0
+
+-- rows that hold where u says so, each as g says
+module _ {A : Type 0} (u : A → Bool) (g : A → Hold) (f : ℕ) where
+  -- how many of them hold the backing at f
+  abbrev pub holding : List A → ℕ
+  holding l = count (λ h. eqb (h .frame) f) (map g (keep u l))
+
+  -- what a row adds
+  abbrev pub weight : A → ℕ
+  weight x = cond (u x) (oneIf (eqb (g x .frame) f)) 0
+
+  -- row by row
+  pub holding-cons : (x : A) (l : List A) → holding (x ∷ l) ≡ weight x + holding l
+  unfolding count keep
+  holding-cons x l = go (u x)
+    where
+      counted : (b : Bool) → cond b (holding l + 1) (holding l) ≡ oneIf b + holding l
+      counted true = omega arith
+      counted false = omega arith
+
+      go : (b : Bool) → count (λ h. eqb (h .frame) f) (map g (cond b (x ∷ keep u l) (keep u l))) ≡ cond b (oneIf (eqb (g x .frame) f)) 0 + holding l
+      go true = counted (eqb (g x .frame) f)
+      go false = omega arith
+
+  -- a row is another: what it added goes, what the other adds comes
+  pub holding-put : (d : A) (l : List A) (i : ℕ) (x : A) → i < length l → holding (set l i x) + weight (getD l i d) ≡ holding l + weight x
+  holding-put d [] i x h = absurd (not-suc-le-zero h)
+  holding-put d (y ∷ l) zero x h = let was = holding-cons y l in let is = holding-cons x l in omega arith
+  holding-put d (y ∷ l) (suc i) x h =
+      let was = holding-cons y l in
+      let is = holding-cons y (set l i x) in
+      let rest = holding-put d l i x (le-of-suc-le-suc h) in
+      omega arith
+
+-- the rows that hold: entries in use
+abbrev pub entryTaken : Entry → Bool
+entryTaken e = not (eqb (e .owner) 0)
+
+-- .. and regions with a range
+abbrev pub rangeTaken : Region → Bool
+rangeTaken r = isUsed r && isRanged r
+
+abbrev pub entriesHold : List Entry → ℕ → ℕ
+entriesHold l f = holding entryTaken entryHold f l
+
+abbrev pub rangesHold : List Region → ℕ → ℕ
+rangesHold l f = holding rangeTaken rangeHold f l
+
+-- the holders of a backing are its entries and its ranges
+pub holders-split : (m : Machine) (f : ℕ) → holdersOf m f ≡ entriesHold (m .entries) f + rangesHold (m .regions) f
+unfolding holdersOf holds entryHolds rangeHolds
+holders-split m f = count-append (λ h. eqb (h .frame) f) (map entryHold (keep entryTaken (m .entries))) (map rangeHold (keep rangeTaken (m .regions)))
+
+-- ---- what a row weighs
+
+pub weight-unused : (f : ℕ) (r : Region) → r .kind ≡ 0 → weight rangeTaken rangeHold f r ≡ 0
+weight-unused f r z = ap (λ (b : Bool). cond (not b && eqb (r .ranged) 1) (oneIf (eqb (r .range .0) f)) 0) (eq-eqb (r .kind) 0 z)
+
+pub weight-unranged : (f : ℕ) (r : Region) → r .ranged ≢ 1 → weight rangeTaken rangeHold f r ≡ 0
+weight-unranged f r z =
+    ap (λ (b : Bool). cond (not (eqb (r .kind) 0) && b) (oneIf (eqb (r .range .0) f)) 0) (ne-eqb (r .ranged) 1 z) ∙ none (not (eqb (r .kind) 0))
+  where
+    none : (b : Bool) → cond (b && false) (oneIf (eqb (r .range .0) f)) 0 ≡ 0
+    none true = refl
+    none false = refl
+
+pub weight-ranged : (f : ℕ) (r : Region) → Used r → r .ranged ≡ 1 → weight rangeTaken rangeHold f r ≡ oneIf (eqb (r .range .0) f)
+weight-ranged f r u e = λ t. cond (not (ne-eqb (r .kind) 0 u t) && eq-eqb (r .ranged) 1 e t) (oneIf (eqb (r .range .0) f)) 0
+
+pub weight-free : (f : ℕ) (e : Entry) → e .owner ≡ 0 → weight entryTaken entryHold f e ≡ 0
+weight-free f e z = ap (λ (b : Bool). cond (not b) (oneIf (eqb (e .frame .0) f)) 0) (eq-eqb (e .owner) 0 z)
+
+pub weight-taken : (f : ℕ) (e : Entry) → e .owner ≢ 0 → weight entryTaken entryHold f e ≡ oneIf (eqb (e .frame .0) f)
+weight-taken f e z = ap (λ (b : Bool). cond (not b) (oneIf (eqb (e .frame .0) f)) 0) (ne-eqb (e .owner) 0 z)
