@@ -4,3 +4,4 @@ pub mod SegmentWords
 pub mod SegmentWordsLaws
 pub mod TriesLaws
 pub mod SearchLaws
+pub mod SearchPoints

@@ -3,6 +3,7 @@ use mathlib.Core.Path.{_≡_, refl}
 use mathlib.Core.Bool.{true}
 use mathlib.Core.List.{List, [], _∷_, _++_}
 use Prim.Native.Nat.{ℕ, _^_}
+use lib.ListN.{take}
 use Rattle.address.specs.Canonical.{canonical}
 use Rattle.segment.specs.Form.{formOf, inHalf}
 use Rattle.segments.specs.Table.{insert, soundb, walk}
@@ -10,8 +11,8 @@ use Rattle.segments.specs.TableLaws.{remove, heldb}
 use Rattle.segment_search.specs.Search.{firstOver, count, tries, search}
 use Rattle.segments.specs.Calls.{newCall, reserveCall, markCall, releaseCall, splitCall, listCall, checkedBy, splitPoint, insideb, overlapsb, lowest}
 use Rattle.segments.specs.PointForm.{Step, Row, allHold}
-use Rattle.segments.specs.Run.{Call, run, table, nothing}
-use Rattle.segments.specs.Run.Call.{new, reserve, mark, split}
+use Rattle.segments.specs.Run.{Call, run, numbers, table, nothing}
+use Rattle.segments.specs.Run.Call.{new, reserve, mark, release, split}
 
 abbrev pub ok : List ℕ
 ok = 0 ∷ []
@@ -61,3 +62,10 @@ points =
 pub points-hold : allHold run table nothing points ≡ true
 unfolding points newCall reserveCall markCall releaseCall splitCall listCall checkedBy splitPoint insideb overlapsb lowest search tries count firstOver soundb walk insert remove heldb formOf inHalf canonical
 points-hold = refl
+
+-- "zeros after them": the row that a release leaves behind the last one is not listed
+pub list-ends :
+    numbers (take 2 (listCall (run (release 0x11000 0x1000) (run (mark 0x13000 0x2000) (run (mark 0x11000 0x1000) (run (new 0x10000 0x10000) nothing .state) .state) .state) .state) .segments))
+    ≡ 0x13000 ∷ 0x2000 ∷ 0 ∷ 0 ∷ []
+unfolding newCall markCall releaseCall listCall checkedBy overlapsb firstOver soundb walk insert remove heldb formOf inHalf canonical
+list-ends = refl
