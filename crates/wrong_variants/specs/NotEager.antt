@@ -23,7 +23,7 @@ use Rattle.isolation.specs.Statements.{EagerOwns}
 use Rattle.wrong_variants.specs.OneLine.{shareBy}
 use Rattle.wrong_variants.specs.Means.{broken}
 use Rattle.wrong_variants.specs.MeansLaws.{found-told, other}
-use Rattle.wrong_variants.specs.OpenVariants.{teeth}
+use Rattle.wrong_variants.specs.OpenVariants.{variants}
 use Rattle.wrong_variants.specs.SeenByOthers.{eagerShares}
 
 -- process 0's CopyEager page with the byte 31, and its clone into process 1: right, by copying, and wrong, by sharing with WRITABLE taken off the source
@@ -63,7 +63,7 @@ computedb s =
     && (eqb (holdersBy (backing (t .machine) 1 0 1)) 1 && eqb (holdersBy (backing (u .machine) 1 0 1)) 2))))))))
 
 computes : computedb before ≡ true
-unfolding teeth eagerShares before copied shared computedb
+unfolding variants eagerShares before copied shared computedb
 computes = refl
 
 computed-told : (s : State) → computedb s ≡ true → Computed s (copied s) (shared s)

@@ -27,7 +27,7 @@ use Rattle.model.specs.PointRows.{at, rw}
 use Rattle.wrong_variants.specs.OneLine.{shareBy, demoteBy, ownBy, wayBy, faultBy, protectBy, carveBy, removeBy, unpinBy, closeBy}
 use Rattle.wrong_variants.specs.Means.{after, lazy, whole, Case, Refused}
 use Rattle.wrong_variants.specs.MeansLaws.{refusedb, refused-told}
-use Rattle.wrong_variants.specs.OpenVariants.{teeth}
+use Rattle.wrong_variants.specs.OpenVariants.{variants}
 
 -- a write fault at the region's first page
 abbrev writes : Call
@@ -48,7 +48,7 @@ rangeStaysWritable = record {
 }
 
 range-stays-writable-computes : refusedb rangeStaysWritable ≡ true
-unfolding teeth rangeStaysWritable
+unfolding variants rangeStaysWritable
 range-stays-writable-computes = refl
 
 pub range-stays-writable : Refused rangeStaysWritable
@@ -69,7 +69,7 @@ holdersNotRaised = record {
 }
 
 holders-not-raised-computes : refusedb holdersNotRaised ≡ true
-unfolding teeth holdersNotRaised
+unfolding variants holdersNotRaised
 holders-not-raised-computes = refl
 
 pub holders-not-raised : Refused holdersNotRaised
@@ -89,7 +89,7 @@ rangeHoldersNotRaised = record {
 }
 
 range-holders-not-raised-computes : refusedb rangeHoldersNotRaised ≡ true
-unfolding teeth rangeHoldersNotRaised
+unfolding variants rangeHoldersNotRaised
 range-holders-not-raised-computes = refl
 
 pub range-holders-not-raised : Refused rangeHoldersNotRaised
@@ -112,7 +112,7 @@ oldBackingKept = record {
 }
 
 old-backing-kept-computes : refusedb oldBackingKept ≡ true
-unfolding teeth oldBackingKept
+unfolding variants oldBackingKept
 old-backing-kept-computes = refl
 
 pub old-backing-kept : Refused oldBackingKept
@@ -133,7 +133,7 @@ restoredWithTwoHolders = record {
 }
 
 restored-with-two-holders-computes : refusedb restoredWithTwoHolders ≡ true
-unfolding teeth restoredWithTwoHolders
+unfolding variants restoredWithTwoHolders
 restored-with-two-holders-computes = refl
 
 pub restored-with-two-holders : Refused restoredWithTwoHolders
@@ -154,7 +154,7 @@ protectionForgetsHolders = record {
 }
 
 protection-forgets-holders-computes : refusedb protectionForgetsHolders ≡ true
-unfolding teeth protectionForgetsHolders
+unfolding variants protectionForgetsHolders
 protection-forgets-holders-computes = refl
 
 pub protection-forgets-holders : Refused protectionForgetsHolders
@@ -175,7 +175,7 @@ entriesLeftLow = record {
 }
 
 entries-left-low-computes : refusedb entriesLeftLow ≡ true
-unfolding teeth entriesLeftLow
+unfolding variants entriesLeftLow
 entries-left-low-computes = refl
 
 pub entries-left-low : Refused entriesLeftLow
@@ -196,7 +196,7 @@ pinnedStaysMapped = record {
 }
 
 pinned-stays-mapped-computes : refusedb pinnedStaysMapped ≡ true
-unfolding teeth pinnedStaysMapped
+unfolding variants pinnedStaysMapped
 pinned-stays-mapped-computes = refl
 
 pub pinned-stays-mapped : Refused pinnedStaysMapped
@@ -217,7 +217,7 @@ unpinEndsAttached = record {
 }
 
 unpin-ends-attached-computes : refusedb unpinEndsAttached ≡ true
-unfolding teeth unpinEndsAttached
+unfolding variants unpinEndsAttached
 unpin-ends-attached-computes = refl
 
 pub unpin-ends-attached : Refused unpinEndsAttached
@@ -238,7 +238,7 @@ detachedLeftByClose = record {
 }
 
 detached-left-by-close-computes : refusedb detachedLeftByClose ≡ true
-unfolding teeth detachedLeftByClose
+unfolding variants detachedLeftByClose
 detached-left-by-close-computes = refl
 
 pub detached-left-by-close : Refused detachedLeftByClose
@@ -259,7 +259,7 @@ faultPastTheEnd = record {
 }
 
 fault-past-the-end-computes : refusedb faultPastTheEnd ≡ true
-unfolding teeth faultPastTheEnd
+unfolding variants faultPastTheEnd
 fault-past-the-end-computes = refl
 
 pub fault-past-the-end : Refused faultPastTheEnd

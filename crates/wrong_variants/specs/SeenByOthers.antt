@@ -18,7 +18,7 @@ use Rattle.model.specs.PointRows.{at, rw}
 use Rattle.wrong_variants.specs.OneLine.{shareBy, copyBy, wayBy, protectBy, carveBy}
 use Rattle.wrong_variants.specs.Means.{after, lazy, eager, put, Case, Sight, Seen}
 use Rattle.wrong_variants.specs.MeansLaws.{seenb, seen-told}
-use Rattle.wrong_variants.specs.OpenVariants.{teeth}
+use Rattle.wrong_variants.specs.OpenVariants.{variants}
 use Rattle.wrong_variants.specs.RefusedVariants.{unheld, restores, forgets}
 
 -- (11) a clone that leaves the source's mappings writable
@@ -39,7 +39,7 @@ unfoldable pub newDate : Sight
 newDate = record { follows = put 0 0x1000 15; of = 0; by = 1; address = 0x1000; good = 31; bad = 15 }
 
 writable-on-both-sides-computes : seenb writableOnBothSides newDate ≡ true
-unfolding teeth writableOnBothSides newDate
+unfolding variants writableOnBothSides newDate
 writable-on-both-sides-computes = refl
 
 pub writable-on-both-sides : Seen writableOnBothSides newDate
@@ -65,7 +65,7 @@ unfoldable pub lastByte : Sight
 lastByte = record { follows = λ s. s; of = 0; by = 1; address = 0x1fff; good = 9; bad = 7 }
 
 copied-short-computes : seenb copiedShort lastByte ≡ true
-unfolding teeth copiedShort lastByte
+unfolding variants copiedShort lastByte
 copied-short-computes = refl
 
 pub copied-short : Seen copiedShort lastByte
@@ -86,7 +86,7 @@ eagerShares = record {
 
 -- the source's next store is seen by the clone
 eager-shares-computes : seenb eagerShares newDate ≡ true
-unfolding teeth eagerShares newDate
+unfolding variants eagerShares newDate
 eager-shares-computes = refl
 
 pub eager-shares : Seen eagerShares newDate
@@ -113,7 +113,7 @@ unfoldable pub partsByte : Sight
 partsByte = record { follows = λ s. s; of = 1; by = 1; address = 0x2000; good = 9; bad = 0 }
 
 entry-lost-computes : seenb entryLost partsByte ≡ true
-unfolding teeth entryLost partsByte
+unfolding variants entryLost partsByte
 entry-lost-computes = refl
 
 pub entry-lost : Seen entryLost partsByte
@@ -142,7 +142,7 @@ unfoldable pub clonesStore : Sight
 clonesStore = record { follows = λ s. put 1 0x1000 15 (handleFault s 1 0 1 true .state); of = 0; by = 0; address = 0x1000; good = 31; bad = 15 }
 
 unheld-clone-computes : seenb unheldClone clonesStore ≡ true
-unfolding teeth unheldClone clonesStore
+unfolding variants unheldClone clonesStore
 unheld-clone-computes = refl
 
 pub unheld-clone : Seen unheldClone clonesStore
@@ -159,7 +159,7 @@ restoredShared = record {
 }
 
 restored-shared-computes : seenb restoredShared newDate ≡ true
-unfolding teeth restoredShared newDate
+unfolding variants restoredShared newDate
 restored-shared-computes = refl
 
 pub restored-shared : Seen restoredShared newDate
@@ -176,7 +176,7 @@ protectedShared = record {
 }
 
 protected-shared-computes : seenb protectedShared newDate ≡ true
-unfolding teeth protectedShared newDate
+unfolding variants protectedShared newDate
 protected-shared-computes = refl
 
 pub protected-shared : Seen protectedShared newDate

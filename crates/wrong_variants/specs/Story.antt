@@ -23,7 +23,7 @@ use Rattle.isolation.specs.Statements.{Guarantee}
 use Rattle.isolation.specs.Guaranteed.{demand3}
 use Rattle.wrong_variants.specs.Means.{put, get}
 use Rattle.wrong_variants.specs.MeansLaws.{found-told, other}
-use Rattle.wrong_variants.specs.OpenVariants.{teeth}
+use Rattle.wrong_variants.specs.OpenVariants.{variants}
 use Rattle.wrong_variants.specs.SeenByOthers.{writableOnBothSides, newDate, writable-on-both-sides}
 
 -- a date of four bytes, day, month, century, year, is written or read at 0x1000
@@ -108,7 +108,7 @@ unfoldable pub clonedb : State → Bool
 clonedb s = toldb (writableOnBothSides .right s) (writableOnBothSides .wrong s)
 
 told-computes : clonedb (writableOnBothSides .before) ≡ true
-unfolding teeth writableOnBothSides clonedb toldb
+unfolding variants writableOnBothSides clonedb toldb
 told-computes = refl
 
 abbrev pub wrong : State
