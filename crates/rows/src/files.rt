@@ -5,9 +5,9 @@ ghost use lib.ListN.{length, getD, set};
 ghost use Rattle.model.specs.Layout.{wordCount, machine};
 ghost use Rattle.model.specs.Machine.{noFile};
 ghost use Rattle.rows.specs.With.{withFiles, withFileCount};
-use crate::FILES_AT;
 use crate::FILE_COUNT_AT;
 use crate::FILE_WORDS;
+use crate::FILES_AT;
 use model::File;
 
 // The row of a file.
