@@ -107,7 +107,7 @@ impl Page {
         ensures { λ r. ⌜ r .0 ≡ pageFrom (addr .0 + len) ⌝ }
     {
         let rest = addr.0 % PAGE_SIZE + len % PAGE_SIZE;
-        Page(addr.0 / PAGE_SIZE + len / PAGE_SIZE + (rest + 4095) / PAGE_SIZE)
+        Page(addr.0 / PAGE_SIZE + len / PAGE_SIZE + (rest + (PAGE_SIZE - 1)) / PAGE_SIZE)
     }
 
     // How many pages it lies past another; 0 below that one.
