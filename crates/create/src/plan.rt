@@ -16,6 +16,7 @@ use model::Done;
 use model::Found;
 use model::Place;
 use model::Region;
+use model::SHARED;
 use reserve::lowest::spot;
 use rows::sizes::pages_for;
 use rows::sizes::segment_len;
@@ -40,7 +41,7 @@ fn is_run_needed(eager: bool, region: Region) -> bool
     if eager {
         return true;
     }
-    region.kind == 3
+    region.kind == SHARED
 }
 
 // The lowest run that fits, where the region is made with a range.

@@ -5,8 +5,12 @@ ghost use Rattle.create.specs.Made.{withRange};
 use address::PageTableFlags;
 use address::PhysFrame;
 use address::VirtAddr;
+use model::COPY_ON_WRITE;
+use model::FILE_BACKED;
 use model::Found;
+use model::PRIVATE;
 use model::Region;
+use model::SHARED;
 
 // A mark in a row.
 fn mark(b: bool) -> u64
@@ -25,7 +29,7 @@ pub fn private_row(size: u64, flags: u64, copy: bool, thread: bool) -> Region
     let fork = mark(copy);
     let per_thread = mark(thread);
     Region {
-        kind: 1,
+        kind: PRIVATE,
         start: VirtAddr(0),
         size: size,
         flags: PageTableFlags(flags),
@@ -55,7 +59,7 @@ pub fn file_row(
     let fork = mark(copy);
     let per_thread = mark(thread);
     Region {
-        kind: 2,
+        kind: FILE_BACKED,
         start: VirtAddr(0),
         size: size,
         flags: PageTableFlags(flags),
@@ -75,11 +79,11 @@ pub fn shared_row(size: u64) -> Region
     ensures { λ r. ⌜ r ≡ wantedShared size ⌝ }
 {
     Region {
-        kind: 3,
+        kind: SHARED,
         start: VirtAddr(0),
         size: size,
         flags: PageTableFlags(0),
-        fork: 0,
+        fork: COPY_ON_WRITE,
         per_thread: 0,
         pins: 0,
         file: 0,
