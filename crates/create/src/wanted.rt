@@ -1,13 +1,14 @@
 // The rows of new regions: as they are asked for, and as they are stored.
 ghost use mathlib.Core.Path.{_≡_};
 ghost use Rattle.model.specs.Create.{one, wantedPrivate, wantedFile, wantedShared, placedAt};
+ghost use Rattle.backing.specs.BackingSteps.{foundFrame};
 ghost use Rattle.create.specs.Made.{withRange};
 use address::PageTableFlags;
 use address::PhysFrame;
 use address::VirtAddr;
+use backing::free::FoundFrame;
 use model::COPY_ON_WRITE;
 use model::FILE_BACKED;
-use model::Found;
 use model::PRIVATE;
 use model::Region;
 use model::SHARED;
@@ -95,12 +96,12 @@ pub fn shared_row(size: u64) -> Region
 }
 
 // A region with its start and a range.
-fn with_range(region: Region, start: u64, ranged: u64, range: u64) -> Region
-    ensures { λ r. ⌜ r ≡ withRange region start ranged range ⌝ }
+fn with_range(region: Region, start: VirtAddr, ranged: u64, range: PhysFrame) -> Region
+    ensures { λ r. ⌜ r ≡ withRange region (start .0) ranged (range .0) ⌝ }
 {
     Region {
         kind: region.kind,
-        start: VirtAddr(start),
+        start: start,
         size: region.size,
         flags: PageTableFlags(region.flags.0),
         fork: region.fork,
@@ -110,20 +111,20 @@ fn with_range(region: Region, start: u64, ranged: u64, range: u64) -> Region
         offset: region.offset,
         length: region.length,
         ranged: ranged,
-        range: PhysFrame(range),
+        range: range,
     }
 }
 
 // A region as it is stored: with its start, and its range if it has one.
-pub(crate) fn placed_at(region: Region, start: u64, run: Found) -> Region
-    ensures { λ r. ⌜ r ≡ placedAt region start run ⌝ }
+pub(crate) fn placed_at(region: Region, start: VirtAddr, run: FoundFrame) -> Region
+    ensures { λ r. ⌜ r ≡ placedAt region (start .0) (foundFrame run) ⌝ }
 {
     match run {
-        Found::At(frame) => {
-            return with_range(region, start, 1, frame as u64);
+        FoundFrame::At(frame) => {
+            return with_range(region, start, 1, frame);
         }
-        Found::Nothing => {
-            return with_range(region, start, 0, 0);
+        FoundFrame::Nothing => {
+            return with_range(region, start, 0, PhysFrame(0));
         }
     }
 }

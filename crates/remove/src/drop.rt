@@ -37,7 +37,7 @@ fn let_go(words: &mut [u64], frame: PhysFrame)
     ensures { λ _. ⌜ LetsGo (machine (now (words .entry))) (frame .0) (machine (now (words .exit))) ⌝ }
 {
     if frame.0 < FRAMES as u64 {
-        release(words, frame.0 as usize);
+        release(words, frame);
         return;
     }
 }
