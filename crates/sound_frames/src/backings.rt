@@ -32,7 +32,7 @@ pub fn backings_fit(words: &[u64]) -> bool
         next: count,
     };
     let mut f = 0;
-    while f < FRAMES {
+    while f < FRAMES as u64 {
         let b = backing_at(words, f as usize);
         if !may_start(met.end, f, b.len, count) {
             return false;

@@ -18,6 +18,9 @@ use model::SHARED;
 use rows::pages::entry_at;
 use rows::slots::region_at;
 
+// How many there are.
+pub(crate) const HOLDERS: usize = 1024;
+
 // What an entry or a range holds: the backing's first frame, 256 where it holds none or none that can be marked, the page that it
 // is held at, and 1 for a Shared region.
 pub struct Held {

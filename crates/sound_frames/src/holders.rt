@@ -6,12 +6,12 @@ ghost use Rattle.model.specs.Layout.{wordCount, machine};
 ghost use Rattle.model.specs.SoundTest.{r3b};
 ghost use Rattle.sound_frames.specs.Tally.{Tallied, heldTimes, freeUnheld};
 ghost use Rattle.sound_frames.specs.Tally.{Counts};
+use crate::held::HOLDERS;
 use crate::held::by_entry;
 use crate::held::by_range;
 use model::Backing;
 use model::ENTRIES;
 use model::FRAMES;
-use model::REGIONS;
 use rows::backings::backing_at;
 use rows::pages::entry_at;
 use rows::slots::region_at;
@@ -84,7 +84,7 @@ fn tally_ranges(words: &[u64], counts: &mut [u16])
     ensures { λ _. ⌜ Counts (now (words .entry)) (now (counts .exit)) 1024 ⌝ }
 {
     let mut k = ENTRIES;
-    while k < ENTRIES + REGIONS {
+    while k < HOLDERS {
         let region = region_at(words, k - ENTRIES);
         let h = by_range(region);
         let frame = h.frame;
