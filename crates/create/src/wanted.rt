@@ -1,6 +1,6 @@
 // The rows of new regions: as they are asked for, and as they are stored.
 ghost use mathlib.Core.Path.{_≡_};
-ghost use Rattle.model.specs.Create.{one, wantedPrivate, wantedFile, wantedShared, placedAt};
+ghost use Rattle.model.specs.Create.{one, isCopy, wantedPrivate, wantedFile, wantedShared, placedAt};
 ghost use Rattle.backing.specs.BackingSteps.{foundFrame};
 ghost use Rattle.create.specs.Made.{withRange};
 use address::PageTableFlags;
@@ -9,6 +9,7 @@ use address::VirtAddr;
 use backing::free::FoundFrame;
 use model::COPY_ON_WRITE;
 use model::FILE_BACKED;
+use model::ForkPolicy;
 use model::PRIVATE;
 use model::Region;
 use model::SHARED;
@@ -23,11 +24,11 @@ fn mark(b: bool) -> u64
     0
 }
 
-// A Private region as it is asked for; `copy` for fork policy CopyEager.
-pub fn private_row(size: u64, flags: u64, copy: bool, thread: bool) -> Region
-    ensures { λ r. ⌜ r ≡ wantedPrivate size flags copy thread ⌝ }
+// A Private region as it is asked for.
+pub fn private_row(size: u64, flags: u64, fork: ForkPolicy, thread: bool) -> Region
+    ensures { λ r. ⌜ r ≡ wantedPrivate size flags (isCopy fork) thread ⌝ }
 {
-    let fork = mark(copy);
+    let fork = mark(fork.is_copy());
     let per_thread = mark(thread);
     Region {
         kind: PRIVATE,
@@ -49,15 +50,15 @@ pub fn private_row(size: u64, flags: u64, copy: bool, thread: bool) -> Region
 pub fn file_row(
     size: u64,
     flags: u64,
-    copy: bool,
+    fork: ForkPolicy,
     thread: bool,
     file: u64,
     offset: u64,
     len: u64,
 ) -> Region
-    ensures { λ r. ⌜ r ≡ wantedFile size flags copy thread file offset len ⌝ }
+    ensures { λ r. ⌜ r ≡ wantedFile size flags (isCopy fork) thread file offset len ⌝ }
 {
-    let fork = mark(copy);
+    let fork = mark(fork.is_copy());
     let per_thread = mark(thread);
     Region {
         kind: FILE_BACKED,

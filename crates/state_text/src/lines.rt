@@ -170,7 +170,7 @@ pub fn put_entry(out: &mut [u8], at: usize, process: u64, entry: Entry, holders:
     ensures { λ r. ⌜ r ≤ at + 128 ⌝ }
 {
     let next = put_with_decimal(out, at, b"page ", process);
-    let next = put_hex_word(out, next, page_start(entry.page));
+    let next = put_hex_word(out, next, entry.page.start_address().0);
     let next = put_decimal_word(out, next, entry.frame.0);
     let next = put_decimal_word(out, next, holders);
     put_end(out, next)
