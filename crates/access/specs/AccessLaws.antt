@@ -8,7 +8,10 @@ use lib.ListN.{length, getD, set}
 use borrow.Author.Tests.{not-false}
 use Rattle.answers.specs.declared.Refusal.{Refusal}
 use Rattle.answers.specs.declared.Refusal.the-variants.{NoProcess, BadAddress, Denied}
+use Rattle.address.specs.declared.PhysAddr.{PhysAddr}
 use Rattle.address.specs.Canonical.{user}
+use Rattle.address.specs.Pages.{startOf, pageOffset}
+use Rattle.address.specs.PagesLaws.{start-exact}
 use Rattle.model.specs.declared.Mapping.{Mapping}
 use Rattle.model.specs.declared.Done.{Done}
 use Rattle.model.specs.declared.Done.the-variants.{Yes, No}
@@ -36,12 +39,15 @@ use Rattle.lookup.specs.NamedSlotLaws.{sound-of}
 use Rattle.access.specs.MappedFrameLaws.{frame-inside}
 use Rattle.access.specs.Granted.{accessBy, allowed}
 
-pub access-at : (d : Done) (i j : ℕ) (x : Access) → x ≡ accessBy d i → x ≡ At j → (Yes ≡ d) × (j ≡ i)
-access-at Yes i j x e f = (refl, let g : At j ≡ At i = sym f ∙ e in cc)
+pub access-at : (d : Done) (i : ℕ) (j : PhysAddr) (x : Access) → x ≡ accessBy d i → x ≡ At j → (Yes ≡ d) × (j .0 ≡ i)
+access-at Yes i j x e f =
+    let g : At j ≡ At (record { 0 = i }) = sym f ∙ e in
+    let same : j ≡ record { 0 = i } = cc in
+    (refl, ap (λ (y : PhysAddr). y .0) same)
 access-at (No r) i j x e f = let z : _≡_ {A = ℕ} 0 1 = let g : At j ≡ Access.No r = sym f ∙ e in cc in absurd (omega arith)
 
 pub access-no : (d : Done) (i : ℕ) (r : Refusal) (x : Access) → x ≡ accessBy d i → x ≡ Access.No r → No r ≡ d
-access-no Yes i r x e f = let z : _≡_ {A = ℕ} 0 1 = let g : Access.No r ≡ At i = sym f ∙ e in cc in absurd (omega arith)
+access-no Yes i r x e f = let z : _≡_ {A = ℕ} 0 1 = let g : Access.No r ≡ At (record { 0 = i }) = sym f ∙ e in cc in absurd (omega arith)
 access-no (No q) i r x e f = let g : Access.No r ≡ Access.No q = sym f ∙ e in let h : r ≡ q = cc in ap (λ y. No y) h
 
 module _ (flags : ℕ) where
@@ -79,7 +85,7 @@ module _ (w : List ℕ) (p a : ℕ) (write : Bool) where
     unfolding accessRefusals
     access-denied g = no-byte Denied (first-later _ NoProcess _ _ (not-yes _ o) (first-later _ BadAddress _ _ (not-yes _ u) (first-here _ Denied _ (not-no _ g))))
 
-    access-granted : model.granted page write ≡ true → At (model.byteAt page a) ≡ here
+    access-granted : model.granted page write ≡ true → At (record { 0 = model.byteAt page a }) ≡ here
     unfolding accessRefusals
     access-granted g = ap (λ (d : Done). accessBy d (model.byteAt page a)) (first-later _ NoProcess _ _ (not-yes _ o) (first-later _ BadAddress _ _ (not-yes _ u) (first-later _ Denied _ _ (not-yes _ g) first-none)))
 
@@ -97,17 +103,23 @@ module _ (w : List ℕ) (p a : ℕ) (write : Bool) where
         pub access-disallowed : (b : Bool) → b ≡ allowed (x .flags .0) write → b ≡ false → Access.No Denied ≡ here
         access-disallowed b q f = access-denied (ap (λ (y : Translated). model.granted y write) (sym found-page ∙ e) ∙ sym q ∙ f)
 
-        pub access-allowed : (b : Bool) → b ≡ allowed (x .flags .0) write → b ≡ true → At (x .frame .0 * 4096 + a % 4096) ≡ here
-        access-allowed b q f =
-            let same : Mapped x ≡ page = sym e ∙ found-page in
-            ap (λ (y : Translated). At (model.byteAt y a)) same ∙ access-granted (ap (λ (y : Translated). model.granted y write) (sym same) ∙ sym q ∙ f)
-
         -- its frame is one of at most 256
-        pub frame-small : x .frame .0 < 256
+        frame-small : x .frame .0 < 256
         frame-small =
             let inside = frame-inside (stateOf w (k .frames) (k .files)) (sound-of k) p (a / 4096) x (open-small w p o) (sym found-page ∙ e) in
             let few = sound-of k .r6 .sized .frameCount in
             omega arith
+
+        -- its byte, by the frame's first and the address's place in the page
+        pub access-allowed : (b : Bool) → b ≡ allowed (x .flags .0) write → b ≡ true → (o : ℕ) → o ≡ pageOffset a → (v : PhysAddr) → v .0 ≡ startOf (x .frame .0) + o → At v ≡ here
+        access-allowed b q f o offset v at =
+            let same : Mapped x ≡ page = sym e ∙ found-page in
+            let small = frame-small in
+            let start = start-exact (x .frame .0) (omega arith) in
+            let byte : v .0 ≡ x .frame .0 * 4096 + a % 4096 = omega arith in
+            ap (λ (n : ℕ). At (record { 0 = n })) byte
+            ∙ ap (λ (y : Translated). At (record { 0 = model.byteAt y a })) same
+            ∙ access-granted (ap (λ (y : Translated). model.granted y write) (sym same) ∙ sym q ∙ f)
 
 -- ---- the cores
 
@@ -119,7 +131,7 @@ module _ (w f : List ℕ) (p a : ℕ) (write : Bool) where
   place = model.byteAt (model.pageAt (machine w) p a) a
 
   -- a byte that is granted is one of the frames'
-  pub granted-inside : SoundFrames w f → (x : Access) (j : ℕ) → x ≡ accessBy tests place → x ≡ At j → j < length f
+  pub granted-inside : SoundFrames w f → (x : Access) (j : PhysAddr) → x ≡ accessBy tests place → x ≡ At j → j .0 < length f
   unfolding accessRefusals
   granted-inside k x j e q =
       let there = access-at tests place j x e q in
@@ -143,7 +155,7 @@ module _ (w f : List ℕ) (p a : ℕ) where
   unfolding load accessRefusals
   load-refused r e b s = sym (ap (λ x. x .answer) (refused (stateOf w f b) loading.No _ _ s r e))
 
-  pub load-answered : (x : Access) (j : ℕ) → x ≡ accessBy (firstOf (accessRefusals (wordsAlone w) p a false)) (model.byteAt (model.pageAt (machine w) p a) a) → x ≡ At j → (v : ℕ) → v ≡ getD f j 0 → OnFrames (λ s. load s p a) w f (loading.Byte v)
+  pub load-answered : (x : Access) (j : PhysAddr) → x ≡ accessBy (firstOf (accessRefusals (wordsAlone w) p a false)) (model.byteAt (model.pageAt (machine w) p a) a) → x ≡ At j → (v : ℕ) → v ≡ getD f (j .0) 0 → OnFrames (λ s. load s p a) w f (loading.Byte v)
   unfolding load accessRefusals model.loaded
   load-answered x j e q v read b s =
       let there = access-at _ _ j x e q in
@@ -153,7 +165,7 @@ module _ (w f : List ℕ) (p a : ℕ) where
   unfolding store accessRefusals
   store-refused v r e b s = refused (stateOf w f b) (λ (q : Refusal). No q) _ _ s r e
 
-  pub store-done : (v : ℕ) (x : Access) (j : ℕ) → x ≡ accessBy (firstOf (accessRefusals (wordsAlone w) p a true)) (model.byteAt (model.pageAt (machine w) p a) a) → x ≡ At j → (g : List ℕ) → g ≡ set f j v → Does (λ s. store s p a v) w f w g Yes
+  pub store-done : (v : ℕ) (x : Access) (j : PhysAddr) → x ≡ accessBy (firstOf (accessRefusals (wordsAlone w) p a true)) (model.byteAt (model.pageAt (machine w) p a) a) → x ≡ At j → (g : List ℕ) → g ≡ set f (j .0) v → Does (λ s. store s p a v) w f w g Yes
   unfolding store accessRefusals model.stored
   store-done v x j e q g put b s =
       let there = access-at _ _ j x e q in

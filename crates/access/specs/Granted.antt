@@ -9,7 +9,7 @@ use Rattle.access.specs.declared.Access.the-variants.{At}
 
 -- a byte's place where no test refuses
 abbrev pub accessBy : Done → ℕ → Access
-accessBy Yes i = At i
+accessBy Yes i = At (record { 0 = i })
 accessBy (No r) i = Access.No r
 
 -- ---- the page's flags

@@ -10,19 +10,20 @@ ghost use Rattle.rows.specs.LentMemory.{wordsAlone, SoundWords, SoundFrames, Do
 ghost use Rattle.access.specs.Granted.{accessBy, allowed};
 use address::Page;
 use address::PageTableFlags;
+use address::PhysAddr;
 use address::VirtAddr;
 use answers::Refusal;
-use frames::raw::byte_at;
-use frames::raw::put_byte;
+use frames::byte_at;
+use frames::put_byte;
 use lookup::search::is_open;
 use model::Done;
 use model::Loaded;
 use model::Translated;
 use paging::search::translate;
 
-// The byte that a process may use at an address: its place among the frames' bytes, or why there is none.
+// The byte that a process may use at an address, by its place among the frames, or why there is none.
 pub enum Access {
-    At(usize),
+    At(PhysAddr),
     No(Refusal),
 }
 
@@ -58,7 +59,8 @@ fn granted_byte(words: &[u64], process: u64, addr: VirtAddr, write: bool) -> Acc
     if !is_allowed(row.flags, write) {
         return Access::No(Refusal::Denied);
     }
-    Access::At(row.frame.0 as usize * 4096 + addr.0 as usize % 4096)
+    let frame = row.frame;
+    Access::At(frame.address_at(addr.page_offset()))
 }
 
 // The byte that a load gives, of a sound machine.

@@ -8,6 +8,7 @@ use Rattle.model.specs.declared.Backing.{Backing}
 use Rattle.model.specs.declared.Pool.{Pool}
 use Rattle.model.specs.declared.Found.{Found}
 use Rattle.model.specs.declared.Found.the-variants.{At, Nothing}
+use Rattle.backing.specs.declared.free.FoundFrame.{FoundFrame}
 use Rattle.laws.specs.Lists.{keep, upFrom, first}
 use Rattle.model.specs.Machine.{Machine, withPool}
 use Rattle.model.specs.Backing.{backingAt, inSome, freeFrames, runFrom}
@@ -23,6 +24,11 @@ freeAbove g l = keep (λ x. not (inSome x g (drop g l))) (upFrom g (length l - g
 -- the lowest of them, the number of rows where there is none
 unfoldable pub lowestFree : ℕ → List Backing → ℕ
 lowestFree g l = first (length l) (freeAbove g l)
+
+-- a frame that was found, as its row among the backings
+abbrev pub foundFrame : FoundFrame → Found
+foundFrame (FoundFrame.At f) = At (f .0)
+foundFrame FoundFrame.Nothing = Nothing
 
 -- the lowest n free frames in a row
 unfoldable pub lowestFit : List Backing → ℕ → Found

@@ -6,11 +6,18 @@ ghost use lib.ListN.{length};
 ghost use lib.Dec.{eqb};
 ghost use Rattle.model.specs.Layout.{wordCount, machine};
 ghost use Rattle.backing.specs.Pass.{cover};
-ghost use Rattle.backing.specs.BackingSteps.{framed, lowestFree, lowestFit};
+ghost use Rattle.backing.specs.BackingSteps.{framed, lowestFree, foundFrame, lowestFit};
 use crate::core::fewer;
-use model::Found;
+use address::PhysFrame;
+use model::FRAMES;
 use rows::backings::backing_at;
 use rows::backings::frame_count;
+
+// A frame that was looked for.
+pub enum FoundFrame {
+    At(PhysFrame),
+    Nothing,
+}
 
 // How many frames have a row: all of a sound machine's.
 pub fn frame_rows(words: &[u64]) -> usize
@@ -19,10 +26,10 @@ pub fn frame_rows(words: &[u64]) -> usize
     ensures { λ r. ⌜ r ≤ 256 ⌝ }
 {
     let n = frame_count(words);
-    if n < 256 {
+    if n < FRAMES as u64 {
         return n as usize;
     }
-    256
+    FRAMES
 }
 
 // How many frames from a row on are in a backing: `before` counts from the row before, `len` is the row's own.
@@ -37,22 +44,22 @@ fn covered_from(before: u64, len: u64) -> u64
 }
 
 // The lowest free frame from `from` on, the number of frames where there is none. Backings before `from` are taken to end there.
-pub fn lowest_free(words: &[u64], from: usize) -> usize
+pub fn lowest_free(words: &[u64], from: PhysFrame) -> PhysFrame
     requires { ⌜ length (now words) ≡ wordCount ⌝ }
-    ensures { λ r. ⌜ r ≡ lowestFree from (framed (machine (now (words .entry)))) ⌝ }
+    ensures { λ r. ⌜ r .0 ≡ lowestFree (from .0) (framed (machine (now (words .entry)))) ⌝ }
 {
     let rows = frame_rows(words);
     let mut covered = 0;
-    let mut i = from;
+    let mut i = from.0 as usize;
     while i < rows {
         let b = backing_at(words, i);
         covered = covered_from(covered, b.len);
         if covered == 0 {
-            return i;
+            return PhysFrame(i as u64);
         }
         i += 1;
     }
-    rows
+    PhysFrame(rows as u64)
 }
 
 // Where a run of free frames up to frame i starts: past i where i is in a backing.
@@ -69,12 +76,12 @@ fn run_start(start: usize, i: usize, covered: u64) -> usize
 }
 
 // The lowest n free frames in a row: the first of them. Of no frames there is no run.
-pub fn lowest_run(words: &[u64], n: u64) -> Found
+pub fn lowest_run(words: &[u64], n: u64) -> FoundFrame
     requires { ⌜ length (now words) ≡ wordCount ⌝ }
-    ensures { λ r. ⌜ r ≡ lowestFit (framed (machine (now (words .entry)))) n ⌝ }
+    ensures { λ r. ⌜ foundFrame r ≡ lowestFit (framed (machine (now (words .entry)))) n ⌝ }
 {
     if n == 0 {
-        return Found::Nothing;
+        return FoundFrame::Nothing;
     }
     let rows = frame_rows(words);
     let mut covered = 0;
@@ -85,9 +92,9 @@ pub fn lowest_run(words: &[u64], n: u64) -> Found
         covered = covered_from(covered, b.len);
         start = run_start(start, i, covered);
         if (i + 1 - start) as u64 == n {
-            return Found::At(start);
+            return FoundFrame::At(PhysFrame(start as u64));
         }
         i += 1;
     }
-    Found::Nothing
+    FoundFrame::Nothing
 }

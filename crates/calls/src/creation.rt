@@ -1,11 +1,14 @@
 // Creation of regions: private, lazy or eager; backed by a file; shared.
 ghost use mathlib.Core.Path.{_≡_};
 ghost use Rattle.model.specs.declared.Placed.the-variants as placed;
+ghost use Rattle.model.specs.Create.{isCopy, isEager};
 ghost use Rattle.model.specs.Calls.{createPrivate, createFile, createShared};
 ghost use Rattle.calls.specs.Answered.{answerOn, Leaves};
 use answers::Refusal;
+use model::ForkPolicy;
 use model::Place;
 use model::Placed;
+use model::Population;
 use soundness::is_sound;
 
 // A Private region, lazy or eager.
@@ -15,14 +18,14 @@ pub fn create_private(
     files: &[u8],
     process: u64,
     place: Place,
-    eager: bool,
+    population: Population,
     size: u64,
     flags: u64,
-    copy: bool,
+    fork: ForkPolicy,
     thread: bool,
 ) -> Placed
-    ensures { λ r. ⌜ r ≡ answerOn placed.No (λ s. createPrivate s process place eager size flags copy thread) (now (words .entry)) (now (frames .entry)) (now (files .entry)) ⌝ }
-    ensures { λ _. ⌜ Leaves (λ s. createPrivate s process place eager size flags copy thread) (now (words .entry)) (now (frames .entry)) (now (files .entry)) (now (words .exit)) (now (frames .exit)) ⌝ }
+    ensures { λ r. ⌜ r ≡ answerOn placed.No (λ s. createPrivate s process place (isEager population) size flags (isCopy fork) thread) (now (words .entry)) (now (frames .entry)) (now (files .entry)) ⌝ }
+    ensures { λ _. ⌜ Leaves (λ s. createPrivate s process place (isEager population) size flags (isCopy fork) thread) (now (words .entry)) (now (frames .entry)) (now (files .entry)) (now (words .exit)) (now (frames .exit)) ⌝ }
 {
     if !is_sound(&words[..], &frames[..], files) {
         return Placed::No(Refusal::BadTable);
@@ -32,10 +35,10 @@ pub fn create_private(
         frames,
         process,
         place,
-        eager,
+        population,
         size,
         flags,
-        copy,
+        fork,
         thread,
     )
 }
@@ -49,14 +52,14 @@ pub fn create_file(
     place: Place,
     size: u64,
     flags: u64,
-    copy: bool,
+    fork: ForkPolicy,
     thread: bool,
     file: u64,
     offset: u64,
     len: u64,
 ) -> Placed
-    ensures { λ r. ⌜ r ≡ answerOn placed.No (λ s. createFile s process place size flags copy thread file offset len) (now (words .entry)) (now (frames .entry)) (now (files .entry)) ⌝ }
-    ensures { λ _. ⌜ Leaves (λ s. createFile s process place size flags copy thread file offset len) (now (words .entry)) (now (frames .entry)) (now (files .entry)) (now (words .exit)) (now (frames .exit)) ⌝ }
+    ensures { λ r. ⌜ r ≡ answerOn placed.No (λ s. createFile s process place size flags (isCopy fork) thread file offset len) (now (words .entry)) (now (frames .entry)) (now (files .entry)) ⌝ }
+    ensures { λ _. ⌜ Leaves (λ s. createFile s process place size flags (isCopy fork) thread file offset len) (now (words .entry)) (now (frames .entry)) (now (files .entry)) (now (words .exit)) (now (frames .exit)) ⌝ }
 {
     if !is_sound(&words[..], &frames[..], files) {
         return Placed::No(Refusal::BadTable);
@@ -68,7 +71,7 @@ pub fn create_file(
         place,
         size,
         flags,
-        copy,
+        fork,
         thread,
         file,
         offset,

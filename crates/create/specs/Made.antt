@@ -14,7 +14,7 @@ use Rattle.model.specs.Backing.{zeroFrames}
 use Rattle.model.specs.Create.{placedAt, addRegion, withRun}
 use Rattle.model.specs.SoundTest.{soundb}
 use Rattle.rows.specs.LentMemory.{stateOf}
-use Rattle.backing.specs.BackingSteps.{claimed}
+use Rattle.backing.specs.BackingSteps.{claimed, foundFrame}
 use Rattle.create.specs.declared.plan.Plan.{Plan}
 
 -- a row with its start and a range
@@ -41,7 +41,7 @@ runZeroed l (At f) n = zeroFrames f n l
 
 -- what a plan makes of a state
 unfoldable pub made : State → ℕ → Region → Plan → State
-made s p r plan = let held = withRun s (plan .run) (pagesFor (r .size)) in withMachine held (addRegion (held .machine) p (placedAt r (plan .start) (plan .run)))
+made s p r plan = let held = withRun s (foundFrame (plan .run)) (pagesFor (r .size)) in withMachine held (addRegion (held .machine) p (placedAt r (plan .start .0) (foundFrame (plan .run))))
 
 -- what making leaves of lent memory: on a sound machine, what the plan makes of it
 abbrev pub Makes : ℕ → Region → Plan → (words frames words' frames' : List ℕ) → Type 0

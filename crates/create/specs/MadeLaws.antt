@@ -11,18 +11,18 @@ use Rattle.model.specs.declared.Place.{Place}
 use Rattle.model.specs.declared.Placed.{Placed}
 use Rattle.model.specs.declared.Region.{Region}
 use Rattle.model.specs.declared.Process.{Process}
-use Rattle.model.specs.Machine.{Machine, State, processAt, orderOf}
+use Rattle.model.specs.Machine.{Machine, State, processAt, orderOf, withMachine}
 use Rattle.model.specs.Layout.{machine}
-use Rattle.model.specs.Lookup.{pagesFor, freeSlot}
+use Rattle.model.specs.Lookup.{pagesFor, rowFound, freeSlot}
 use Rattle.model.specs.Backing.{lowestRun, claim, withBackings, zeroFrames}
 use Rattle.model.specs.Answers.{leaving}
-use Rattle.model.specs.Create.{placedAt, addRegion, withRun, coreCreate}
+use Rattle.model.specs.Create.{roundUp, spot, placedAt, addRegion, withRun, coreCreate}
 use Rattle.model.specs.Calls.{create}
 use Rattle.model.specs.Sound.{Ordered}
 use Rattle.model.specs.SoundTest.{soundb}
 use Rattle.model.specs.RecordLaws.{sound-tells}
 use Rattle.rows.specs.LentMemory.{stateOf, SoundFrames}
-use Rattle.backing.specs.BackingSteps.{claimed}
+use Rattle.backing.specs.BackingSteps.{claimed, foundFrame}
 use Rattle.backing.specs.BackingLaws.{claim-is, run-free}
 use Rattle.regions.specs.Added.{withAdded}
 use Rattle.regions.specs.AddedLaws.{places-inside}
@@ -32,8 +32,8 @@ use Rattle.create.specs.declared.plan.Plan.{Plan}
 use Rattle.create.specs.declared.plan.Planned.{Planned}
 use Rattle.create.specs.declared.plan.Planned.the-variants.{Go}
 use Rattle.rows.specs.GuardedLaws.{refused, granted}
-use Rattle.create.specs.Plans.{planned, PlanFits, foundPlan}
-use Rattle.create.specs.PlansLaws.{plan-no, plan-yes, plan-is}
+use Rattle.create.specs.Plans.{runFor, planned, PlanFits, foundPlan}
+use Rattle.create.specs.PlansLaws.{found-frame, plan-no, plan-yes, plan-is}
 use Rattle.create.specs.ReadyLaws.{frames-words, words-ready, words-ordered}
 use Rattle.create.specs.Made.{withRange, RunFits, runClaimed, runZeroed, made, Makes}
 
@@ -97,16 +97,16 @@ inside-claimed m f n p h = h
 
 module _ (w l : List ℕ) (s : SoundFrames w l) (p : ℕ) (h : p < 8) (r : Region) (plan : Plan) (fits : PlanFits (machine w) p r plan) where
   -- its run has rows and bytes
-  pub plan-run : (n : ℕ) → n ≡ pagesFor (r .size) → RunFits (plan .run) n (length l)
-  plan-run n e = subst (λ (x : ℕ). RunFits (plan .run) x (length l)) (sym e) (sound-run w l s (plan .run) (pagesFor (r .size)) (fits .run))
+  pub plan-run : (n : ℕ) → n ≡ pagesFor (r .size) → RunFits (foundFrame (plan .run)) n (length l)
+  plan-run n e = subst (λ (x : ℕ). RunFits (foundFrame (plan .run)) x (length l)) (sym e) (sound-run w l s (foundFrame (plan .run)) (pagesFor (r .size)) (fits .run))
 
   pub plan-slot : plan .slot < 64
   plan-slot = free-below (machine w) p (plan .slot) (fits .slot)
 
   -- list order has a place left, after the claim too
-  pub place-left : (k : Machine) (n : ℕ) → k ≡ runClaimed (machine w) (plan .run) n → processAt k p .attached < 64
+  pub place-left : (k : Machine) (n : ℕ) → k ≡ runClaimed (machine w) (foundFrame (plan .run)) n → processAt k p .attached < 64
   place-left k n e =
-      subst (λ (q : Process). q .attached < 64) (sym (ap (λ (x : Machine). processAt x p) e ∙ process-claimed (machine w) (plan .run) n p))
+      subst (λ (q : Process). q .attached < 64) (sym (ap (λ (x : Machine). processAt x p) e ∙ process-claimed (machine w) (foundFrame (plan .run)) n p))
       (room-left (machine w) p (plan .slot) (fits .slot) (processAt (machine w) p) (words-ordered w (frames-words s) p h) (places-inside w p h))
 
   added : (files : List ℕ) (run : Found) (row : Region) → ((f : ℕ) → run ≡ At f → lowestRun (machine w) (pagesFor (r .size)) ≡ At f)
@@ -131,29 +131,31 @@ module _ (w l : List ℕ) (s : SoundFrames w l) (p : ℕ) (h : p < 8) (r : Regio
 
   pub makes :
       (n : ℕ) → n ≡ pagesFor (r .size)
-      → (k : Machine) → k ≡ runClaimed (machine w) (plan .run) n
-      → (row : Region) → row ≡ placedAt r (plan .start) (plan .run)
-      → (w' l' : List ℕ) → machine w' ≡ withAdded k p (plan .slot) row → l' ≡ runZeroed l (plan .run) n
+      → (k : Machine) → k ≡ runClaimed (machine w) (foundFrame (plan .run)) n
+      → (row : Region) → row ≡ placedAt r (plan .start .0) (foundFrame (plan .run))
+      → (w' l' : List ℕ) → machine w' ≡ withAdded k p (plan .slot) row → l' ≡ runZeroed l (foundFrame (plan .run)) n
       → Makes p r plan w l w' l'
   unfolding made
-  makes n sized k claims row placed w' l' adds zeros files sound = λ i. record { machine = put i; frames = bytes i; bytes = kept-files files (plan .run) (pagesFor (r .size)) i }
+  makes n sized k claims row placed w' l' adds zeros files sound = λ i. record { machine = put i; frames = bytes i; bytes = kept-files files (foundFrame (plan .run)) (pagesFor (r .size)) i }
     where
-      put : machine w' ≡ addRegion (withRun (stateOf w l files) (plan .run) (pagesFor (r .size)) .machine) p (placedAt r (plan .start) (plan .run))
+      put : machine w' ≡ addRegion (withRun (stateOf w l files) (foundFrame (plan .run)) (pagesFor (r .size)) .machine) p (placedAt r (plan .start .0) (foundFrame (plan .run)))
       put =
           adds
-          ∙ ap (λ (x : Machine). withAdded x p (plan .slot) row) (claims ∙ ap (λ (x : ℕ). runClaimed (machine w) (plan .run) x) sized)
-          ∙ ap (λ (x : Region). withAdded (runClaimed (machine w) (plan .run) (pagesFor (r .size))) p (plan .slot) x) placed
-          ∙ added files (plan .run) (placedAt r (plan .start) (plan .run)) (fits .run)
+          ∙ ap (λ (x : Machine). withAdded x p (plan .slot) row) (claims ∙ ap (λ (x : ℕ). runClaimed (machine w) (foundFrame (plan .run)) x) sized)
+          ∙ ap (λ (x : Region). withAdded (runClaimed (machine w) (foundFrame (plan .run)) (pagesFor (r .size))) p (plan .slot) x) placed
+          ∙ added files (foundFrame (plan .run)) (placedAt r (plan .start .0) (foundFrame (plan .run))) (fits .run)
 
-      bytes : l' ≡ withRun (stateOf w l files) (plan .run) (pagesFor (r .size)) .frames
-      bytes = zeros ∙ ap (λ (x : ℕ). runZeroed l (plan .run) x) sized ∙ zeroed files (plan .run) (pagesFor (r .size))
+      bytes : l' ≡ withRun (stateOf w l files) (foundFrame (plan .run)) (pagesFor (r .size)) .frames
+      bytes = zeros ∙ ap (λ (x : ℕ). runZeroed l (foundFrame (plan .run)) x) sized ∙ zeroed files (foundFrame (plan .run)) (pagesFor (r .size))
 
 -- ---- the call
 
 -- the plan that was found makes the model's region
 core-is : (s : State) (p : ℕ) (place : Place) (eager : Bool) (r : Region) → made s p r (foundPlan (s .machine) p place eager r) ≡ coreCreate s p place eager r
 unfolding made coreCreate
-core-is s p place eager r = refl
+core-is s p place eager r =
+    let put : Found → State = λ (run : Found). let held = withRun s run (pagesFor (r .size)) in withMachine held (addRegion (held .machine) p (placedAt r (rowFound (spot (s .machine) p place (roundUp (r .size)))) run)) in
+    ap put (found-frame (runFor (s .machine) eager r))
 
 module _ (w l : List ℕ) (p : ℕ) (place : Place) (eager : Bool) (r : Region) (x : Planned) (e : x ≡ planned (machine w) p place eager r) where
   pub create-refused : (q : Refusal) → x ≡ Planned.No q → (files : List ℕ) → soundb (stateOf w l files) ≡ true → create (stateOf w l files) p place eager r ≡ leaving (Placed.No q) (stateOf w l files)
@@ -162,11 +164,11 @@ module _ (w l : List ℕ) (p : ℕ) (place : Place) (eager : Bool) (r : Region) 
 
   pub create-made :
       (way : Plan) → x ≡ Go way → (w' l' : List ℕ) → Makes p r way w l w' l'
-      → (files : List ℕ) → soundb (stateOf w l files) ≡ true → create (stateOf w l files) p place eager r ≡ leaving (Placed.At (record { 0 = way .start })) (stateOf w' l' files)
+      → (files : List ℕ) → soundb (stateOf w l files) ≡ true → create (stateOf w l files) p place eager r ≡ leaving (Placed.At (way .start)) (stateOf w' l' files)
   unfolding create
   create-made way f w' l' makes files sound =
       granted (stateOf w l files) Placed.No _ _ sound (plan-yes (machine w) p place eager r x e way f)
-      ∙ sym (λ i. leaving (Placed.At (record { 0 = plan-is (machine w) p place eager r x e way f i .start })) (state i))
+      ∙ sym (λ i. leaving (Placed.At (plan-is (machine w) p place eager r x e way f i .start)) (state i))
     where
       state : stateOf w' l' files ≡ coreCreate (stateOf w l files) p place eager r
       state = makes files sound ∙ ap (λ (y : Plan). made (stateOf w l files) p r y) (plan-is (machine w) p place eager r x e way f) ∙ core-is (stateOf w l files) p place eager r

@@ -16,6 +16,8 @@ use Rattle.model.specs.Lookup.{isFound, rowFound, pagesFor, freeSlot}
 use Rattle.model.specs.Backing.{lowestRun}
 use Rattle.model.specs.Answers.{firstOf}
 use Rattle.model.specs.Create.{roundUp, spot, spotRefusal, runNeeded, createRefusals}
+use Rattle.backing.specs.declared.free.FoundFrame.{FoundFrame}
+use Rattle.backing.specs.BackingSteps.{foundFrame}
 use Rattle.create.specs.declared.plan.Plan.{Plan}
 use Rattle.create.specs.declared.plan.Planned.{Planned}
 use Rattle.create.specs.declared.plan.Planned.the-variants.{Go}
@@ -30,8 +32,13 @@ searchRefusals m p place eager r =
     (not (isFound (spot m p place (roundUp (r .size)))), spotRefusal place)
     ∷ (runNeeded eager r && not (isFound (lowestRun m (pagesFor (r .size)))), OutOfMemory) ∷ (not (isFound (freeSlot m p)), TableFull) ∷ []
 
+-- a frame's row among the backings, as the frame
+abbrev pub frameFound : Found → FoundFrame
+frameFound (At f) = FoundFrame.At (record { 0 = f })
+frameFound Nothing = FoundFrame.Nothing
+
 abbrev pub planFor : Found → Found → Found → Plan
-planFor start run slot = record { start = rowFound start; slot = rowFound slot; run = run }
+planFor start run slot = record { start = record { 0 = rowFound start }; slot = rowFound slot; run = frameFound run }
 
 -- what was found where no test refuses
 abbrev pub unlessRefused : Done → Plan → Planned
@@ -50,4 +57,4 @@ planned m p place eager r = unlessRefused (firstOf (createRefusals m p place eag
 -- a plan for a region: its slot is free, and its run, if any, the lowest that fits
 pub record PlanFits (m : Machine) (p : ℕ) (r : Region) (plan : Plan) : Type 0 where
   pub slot : freeSlot m p ≡ At (plan .slot)
-  pub run : (f : ℕ) → plan .run ≡ At f → lowestRun m (pagesFor (r .size)) ≡ At f
+  pub run : (f : ℕ) → foundFrame (plan .run) ≡ At f → lowestRun m (pagesFor (r .size)) ≡ At f

@@ -18,12 +18,14 @@ use Rattle.model.specs.Lookup.{isFound, rowFound, isOpen, pagesFor, freeSlot}
 use Rattle.model.specs.Backing.{lowestRun}
 use Rattle.model.specs.Answers.{firstOf}
 use Rattle.model.specs.Create.{roundUp, spot, spotRefusal, runNeeded, createRefusals}
+use Rattle.backing.specs.declared.free.FoundFrame.{FoundFrame}
+use Rattle.backing.specs.BackingSteps.{foundFrame}
 use Rattle.create.specs.declared.plan.Plan.{Plan}
 use Rattle.create.specs.declared.plan.Planned.{Planned}
 use Rattle.create.specs.declared.plan.Planned.the-variants.{Go}
 use Rattle.lookup.specs.FirstOfLaws.{first-here, first-later, first-none, first-passed, no-refusal}
 use Rattle.create.specs.Refused.{requestRefusals}
-use Rattle.create.specs.Plans.{runFor, searchRefusals, planFor, unlessRefused, foundPlan, searched, planned, PlanFits}
+use Rattle.create.specs.Plans.{runFor, searchRefusals, frameFound, planFor, unlessRefused, foundPlan, searched, planned, PlanFits}
 
 -- ---- a run
 
@@ -58,6 +60,15 @@ needed-same : (b : Bool) (x : Found) → (b && not (isFound (cond b x Nothing)))
 needed-same true x = refl
 needed-same false x = refl
 
+-- a frame found and its row tell the same
+frame-found : (x : FoundFrame) → frameFound (foundFrame x) ≡ x
+frame-found (FoundFrame.At f) = refl
+frame-found FoundFrame.Nothing = refl
+
+pub found-frame : (x : Found) → foundFrame (frameFound x) ≡ x
+found-frame (At f) = refl
+found-frame Nothing = refl
+
 -- ---- the searches
 
 module _ (m : Machine) (p : ℕ) (place : Place) (eager : Bool) (r : Region) where
@@ -72,7 +83,7 @@ module _ (m : Machine) (p : ℕ) (place : Place) (eager : Bool) (r : Region) whe
   unfolding searchRefusals
   search-spot e q f = stops q (ap (λ (x : Refusal). No x) f ∙ first-here _ (spotRefusal place) _ (ap (λ (x : Found). not (isFound x)) (sym e)))
 
-  module _ (start : ℕ) (spotted : At start ≡ spot m p place (roundUp (r .size))) (run : Found) (is-run : run ≡ runFor m eager r) (b : Bool) (lacks : b ≡ (runNeeded eager r && not (isFound run))) where
+  module _ (start : ℕ) (spotted : At start ≡ spot m p place (roundUp (r .size))) (run : FoundFrame) (is-run : foundFrame run ≡ runFor m eager r) (b : Bool) (lacks : b ≡ (runNeeded eager r && not (isFound (foundFrame run)))) where
     lacks-run : (x : Bool) → b ≡ x → (runNeeded eager r && not (isFound (lowestRun m (pagesFor (r .size))))) ≡ x
     lacks-run x e = sym (needed-same (runNeeded eager r) (lowestRun m (pagesFor (r .size)))) ∙ ap (λ (y : Found). runNeeded eager r && not (isFound y)) (sym is-run) ∙ sym lacks ∙ e
 
@@ -91,9 +102,11 @@ module _ (m : Machine) (p : ℕ) (place : Place) (eager : Bool) (r : Region) whe
       pub search-slot : Nothing ≡ freeSlot m p → Planned.No TableFull ≡ searched m p place eager r
       search-slot f = stops TableFull (past-run (first-here _ TableFull _ (ap (λ (x : Found). not (isFound x)) (sym f))))
 
-      pub search-all : (slot : ℕ) → At slot ≡ freeSlot m p → Go (record { start = start; slot = slot; run = run }) ≡ searched m p place eager r
+      pub search-all : (slot : ℕ) → At slot ≡ freeSlot m p → Go (record { start = record { 0 = start }; slot = slot; run = run }) ≡ searched m p place eager r
       unfolding searched
-      search-all slot f = λ k. unlessRefused (passes k) (planFor (spotted k) (is-run k) (f k))
+      search-all slot f =
+          ap (λ (x : FoundFrame). Go (record { start = record { 0 = start }; slot = slot; run = x })) (sym (frame-found run))
+          ∙ (λ k. unlessRefused (passes k) (planFor (spotted k) (is-run k) (f k)))
         where
           passes : Yes ≡ search-done
           passes = past-run (first-later _ TableFull _ _ (ap (λ (x : Found). not (isFound x)) (sym f)) first-none)
@@ -169,7 +182,7 @@ module _ (m : Machine) (p : ℕ) (place : Place) (eager : Bool) (r : Region) (x 
 
     pub plan-fits : PlanFits m p r way
     unfolding createRefusals
-    plan-fits = record { slot = found-row (freeSlot m p) slot-found ∙ ap (λ (y : Plan). At (y .slot)) (sym plan-is); run = λ g h. run-found (runNeeded eager r) (lowestRun m (pagesFor (r .size))) (way .run) g (ap (λ (y : Plan). y .run) plan-is) h }
+    plan-fits = record { slot = found-row (freeSlot m p) slot-found ∙ ap (λ (y : Plan). At (y .slot)) (sym plan-is); run = λ g h. run-found (runNeeded eager r) (lowestRun m (pagesFor (r .size))) (foundFrame (way .run)) g (ap (λ (y : Plan). foundFrame (y .run)) plan-is ∙ found-frame (runFor m eager r)) h }
       where
         slot-found : not (isFound (freeSlot m p)) ≡ false
         slot-found =

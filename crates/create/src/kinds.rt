@@ -2,14 +2,17 @@
 ghost use mathlib.Core.Path.{_≡_};
 ghost use lib.ListN.{length};
 ghost use Rattle.model.specs.Layout.{wordCount};
+ghost use Rattle.model.specs.Create.{isCopy, isEager};
 ghost use Rattle.model.specs.Calls.{createPrivate, createFile, createShared};
 ghost use Rattle.rows.specs.LentMemory.{SoundFrames, Does};
 use crate::make::create;
 use crate::wanted::file_row;
 use crate::wanted::private_row;
 use crate::wanted::shared_row;
+use model::ForkPolicy;
 use model::Place;
 use model::Placed;
+use model::Population;
 
 // A Private region, lazy or eager.
 pub fn create_private(
@@ -17,23 +20,23 @@ pub fn create_private(
     frames: &mut [u8],
     process: u64,
     place: Place,
-    eager: bool,
+    population: Population,
     size: u64,
     flags: u64,
-    copy: bool,
+    fork: ForkPolicy,
     thread: bool,
 ) -> Placed
     requires { ⌜ length (now words) ≡ wordCount ⌝ }
     requires { ⌜ SoundFrames (now words) (now frames) ⌝ }
-    ensures { λ r. ⌜ Does (λ s. createPrivate s process place eager size flags copy thread) (now (words .entry)) (now (frames .entry)) (now (words .exit)) (now (frames .exit)) r ⌝ }
+    ensures { λ r. ⌜ Does (λ s. createPrivate s process place (isEager population) size flags (isCopy fork) thread) (now (words .entry)) (now (frames .entry)) (now (words .exit)) (now (frames .exit)) r ⌝ }
 {
     create(
         words,
         frames,
         process,
         place,
-        eager,
-        private_row(size, flags, copy, thread),
+        population.is_eager(),
+        private_row(size, flags, fork, thread),
     )
 }
 
@@ -45,7 +48,7 @@ pub fn create_file(
     place: Place,
     size: u64,
     flags: u64,
-    copy: bool,
+    fork: ForkPolicy,
     thread: bool,
     file: u64,
     offset: u64,
@@ -53,7 +56,7 @@ pub fn create_file(
 ) -> Placed
     requires { ⌜ length (now words) ≡ wordCount ⌝ }
     requires { ⌜ SoundFrames (now words) (now frames) ⌝ }
-    ensures { λ r. ⌜ Does (λ s. createFile s process place size flags copy thread file offset len) (now (words .entry)) (now (frames .entry)) (now (words .exit)) (now (frames .exit)) r ⌝ }
+    ensures { λ r. ⌜ Does (λ s. createFile s process place size flags (isCopy fork) thread file offset len) (now (words .entry)) (now (frames .entry)) (now (words .exit)) (now (frames .exit)) r ⌝ }
 {
     create(
         words,
@@ -61,7 +64,7 @@ pub fn create_file(
         process,
         place,
         false,
-        file_row(size, flags, copy, thread, file, offset, len),
+        file_row(size, flags, fork, thread, file, offset, len),
     )
 }
 

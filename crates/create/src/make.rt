@@ -5,16 +5,16 @@ ghost use lib.ListN.{length};
 ghost use Rattle.model.specs.Layout.{wordCount, machine};
 ghost use Rattle.model.specs.Calls.{create};
 ghost use Rattle.rows.specs.LentMemory.{SoundFrames, Does};
+ghost use Rattle.backing.specs.BackingSteps.{foundFrame};
 ghost use Rattle.create.specs.Made.{RunFits, runClaimed, runZeroed, Makes};
 ghost use Rattle.create.specs.Plans.{PlanFits};
 use crate::plan::Plan;
 use crate::plan::Planned;
 use crate::plan::plan_for;
 use crate::wanted::placed_at;
-use address::VirtAddr;
+use backing::free::FoundFrame;
 use backing::holders::claim;
 use frames::zero_run;
-use model::Found;
 use model::Place;
 use model::Placed;
 use model::Region;
@@ -22,19 +22,19 @@ use regions::add::add_region;
 use rows::sizes::pages_for;
 
 // The run that a region is made with: its frames zeroed, and a backing of them claimed.
-fn take_run(words: &mut [u64], frames: &mut [u8], run: Found, count: u64)
+fn take_run(words: &mut [u64], frames: &mut [u8], run: FoundFrame, count: u64)
     requires { ⌜ length (now words) ≡ wordCount ⌝ }
-    requires { ⌜ RunFits run count (length (now frames)) ⌝ }
-    ensures { λ _. ⌜ machine (now (words .exit)) ≡ runClaimed (machine (now (words .entry))) run count ⌝ }
-    ensures { λ _. ⌜ now (frames .exit) ≡ runZeroed (now (frames .entry)) run count ⌝ }
+    requires { ⌜ RunFits (foundFrame run) count (length (now frames)) ⌝ }
+    ensures { λ _. ⌜ machine (now (words .exit)) ≡ runClaimed (machine (now (words .entry))) (foundFrame run) count ⌝ }
+    ensures { λ _. ⌜ now (frames .exit) ≡ runZeroed (now (frames .entry)) (foundFrame run) count ⌝ }
 {
     match run {
-        Found::At(frame) => {
+        FoundFrame::At(frame) => {
             zero_run(frames, frame, count as usize);
             claim(words, frame, count);
             return;
         }
-        Found::Nothing => {
+        FoundFrame::Nothing => {
             return;
         }
     }
@@ -50,7 +50,8 @@ fn make(words: &mut [u64], frames: &mut [u8], process: usize, region: Region, pl
 {
     let run = plan.run;
     take_run(words, frames, run, pages_for(region.size));
-    let row = placed_at(region, plan.start as u64, run);
+    let start = plan.start;
+    let row = placed_at(region, start, run);
     add_region(words, process, plan.slot, row);
 }
 
@@ -73,7 +74,8 @@ pub fn create(
         }
         Planned::Go(way) => {
             make(words, frames, process as usize, region, way);
-            return Placed::At(VirtAddr(way.start as u64));
+            let start = way.start;
+            return Placed::At(start);
         }
     }
 }

@@ -7,24 +7,29 @@ ghost use Rattle.model.specs.Layout.{wordCount, machine};
 ghost use Rattle.model.specs.Lookup.{isFound};
 ghost use Rattle.model.specs.Create.{runNeeded, spotRefusal};
 ghost use Rattle.rows.specs.LentMemory.{SoundWords};
+ghost use Rattle.backing.specs.BackingSteps.{foundFrame};
 ghost use Rattle.create.specs.Plans.{runFor, searched, planned};
 use crate::refusals::request_refusal;
+use address::VirtAddr;
 use answers::Refusal;
+use backing::free::FoundFrame;
 use backing::free::lowest_run;
 use lookup::search::free_slot;
 use model::Done;
 use model::Found;
 use model::Place;
 use model::Region;
+use model::SHARED;
+use reserve::lowest::FoundSpot;
 use reserve::lowest::spot;
 use rows::sizes::pages_for;
 use rows::sizes::segment_len;
 
 // The start of a new region, its slot, and the first frame of its range, if it is to have one.
 pub struct Plan {
-    pub start: usize,
+    pub start: VirtAddr,
     pub slot: usize,
-    pub run: Found,
+    pub run: FoundFrame,
 }
 
 // A plan, or the refusal.
@@ -40,26 +45,26 @@ fn is_run_needed(eager: bool, region: Region) -> bool
     if eager {
         return true;
     }
-    region.kind == 3
+    region.kind == SHARED
 }
 
 // The lowest run that fits, where the region is made with a range.
-fn run_for(words: &[u64], eager: bool, region: Region) -> Found
+fn run_for(words: &[u64], eager: bool, region: Region) -> FoundFrame
     requires { ⌜ length (now words) ≡ wordCount ⌝ }
     requires { ⌜ SoundWords (now words) ⌝ }
-    ensures { λ r. ⌜ r ≡ runFor (machine (now (words .entry))) eager region ⌝ }
+    ensures { λ r. ⌜ foundFrame r ≡ runFor (machine (now (words .entry))) eager region ⌝ }
 {
     if is_run_needed(eager, region) {
         return lowest_run(words, pages_for(region.size));
     }
-    Found::Nothing
+    FoundFrame::Nothing
 }
 
 // Whether the range that a region is made with was not found.
-fn lacks_run(eager: bool, region: Region, run: Found) -> bool
-    ensures { λ r. ⌜ r ≡ runNeeded eager region && not (isFound run) ⌝ }
+fn lacks_run(eager: bool, region: Region, run: FoundFrame) -> bool
+    ensures { λ r. ⌜ r ≡ runNeeded eager region && not (isFound (foundFrame run)) ⌝ }
 {
-    let Found::At(_) = run else {
+    let FoundFrame::At(_) = run else {
         return is_run_needed(eager, region);
     };
     false
@@ -87,7 +92,7 @@ fn search(words: &[u64], process: usize, place: Place, eager: bool, region: Regi
     let run = run_for(words, eager, region);
     let free = free_slot(words, process);
     let no_spot = spot_refusal(place);
-    let Found::At(start) = at else {
+    let FoundSpot::At(start) = at else {
         return Planned::No(no_spot);
     };
     if lacks_run(eager, region, run) {

@@ -8,11 +8,14 @@ ghost use Rattle.model.specs.Create.{badStart, badPlace, badSize};
 ghost use Rattle.create.specs.Refused.{badRange, badFlags, fileMissing, requestRefusals};
 use address::CheckedFlags;
 use address::PageTableFlags;
+use address::USER_END;
 use answers::Refusal;
 use lookup::search::is_open;
 use model::Done;
+use model::FILE_BACKED;
 use model::Place;
 use model::Region;
+use model::SHARED;
 use rows::files::file_count;
 use rows::sizes::segment_len;
 
@@ -38,10 +41,10 @@ fn is_bad_place(place: Place, size: u64) -> bool
         return true;
     }
     let len = segment_len(size);
-    if 0x8000_0000_0000 < start.0 {
+    if USER_END < start.0 {
         return true;
     }
-    0x8000_0000_0000 - start.0 < len
+    USER_END - start.0 < len
 }
 
 // Whether a size, or a file's offset or length, passes its limit.
@@ -51,10 +54,10 @@ fn is_bad_size(region: Region) -> bool
     if region.size == 0 {
         return true;
     }
-    if 0x8000_0000_0000 < region.size {
+    if USER_END < region.size {
         return true;
     }
-    if 0x8000_0000_0000 < region.offset {
+    if USER_END < region.offset {
         return true;
     }
     region.size < region.length
@@ -74,7 +77,7 @@ fn is_bad_range(place: Place, region: Region) -> bool
 fn has_bad_flags(region: Region) -> bool
     ensures { λ r. ⌜ r ≡ badFlags region ⌝ }
 {
-    if region.kind == 3 {
+    if region.kind == SHARED {
         return false;
     }
     match PageTableFlags::from_bits(region.flags.0) {
@@ -92,7 +95,7 @@ fn names_no_file(words: &[u64], region: Region) -> bool
     requires { ⌜ length (now words) ≡ wordCount ⌝ }
     ensures { λ r. ⌜ r ≡ fileMissing (machine (now (words .entry))) region ⌝ }
 {
-    if region.kind != 2 {
+    if region.kind != FILE_BACKED {
         return false;
     }
     file_count(words) <= region.file

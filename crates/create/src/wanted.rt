@@ -1,12 +1,18 @@
 // The rows of new regions: as they are asked for, and as they are stored.
 ghost use mathlib.Core.Path.{_≡_};
-ghost use Rattle.model.specs.Create.{one, wantedPrivate, wantedFile, wantedShared, placedAt};
+ghost use Rattle.model.specs.Create.{one, isCopy, wantedPrivate, wantedFile, wantedShared, placedAt};
+ghost use Rattle.backing.specs.BackingSteps.{foundFrame};
 ghost use Rattle.create.specs.Made.{withRange};
 use address::PageTableFlags;
 use address::PhysFrame;
 use address::VirtAddr;
-use model::Found;
+use backing::free::FoundFrame;
+use model::COPY_ON_WRITE;
+use model::FILE_BACKED;
+use model::ForkPolicy;
+use model::PRIVATE;
 use model::Region;
+use model::SHARED;
 
 // A mark in a row.
 fn mark(b: bool) -> u64
@@ -18,14 +24,14 @@ fn mark(b: bool) -> u64
     0
 }
 
-// A Private region as it is asked for; `copy` for fork policy CopyEager.
-pub fn private_row(size: u64, flags: u64, copy: bool, thread: bool) -> Region
-    ensures { λ r. ⌜ r ≡ wantedPrivate size flags copy thread ⌝ }
+// A Private region as it is asked for.
+pub fn private_row(size: u64, flags: u64, fork: ForkPolicy, thread: bool) -> Region
+    ensures { λ r. ⌜ r ≡ wantedPrivate size flags (isCopy fork) thread ⌝ }
 {
-    let fork = mark(copy);
+    let fork = mark(fork.is_copy());
     let per_thread = mark(thread);
     Region {
-        kind: 1,
+        kind: PRIVATE,
         start: VirtAddr(0),
         size: size,
         flags: PageTableFlags(flags),
@@ -44,18 +50,18 @@ pub fn private_row(size: u64, flags: u64, copy: bool, thread: bool) -> Region
 pub fn file_row(
     size: u64,
     flags: u64,
-    copy: bool,
+    fork: ForkPolicy,
     thread: bool,
     file: u64,
     offset: u64,
     len: u64,
 ) -> Region
-    ensures { λ r. ⌜ r ≡ wantedFile size flags copy thread file offset len ⌝ }
+    ensures { λ r. ⌜ r ≡ wantedFile size flags (isCopy fork) thread file offset len ⌝ }
 {
-    let fork = mark(copy);
+    let fork = mark(fork.is_copy());
     let per_thread = mark(thread);
     Region {
-        kind: 2,
+        kind: FILE_BACKED,
         start: VirtAddr(0),
         size: size,
         flags: PageTableFlags(flags),
@@ -75,11 +81,11 @@ pub fn shared_row(size: u64) -> Region
     ensures { λ r. ⌜ r ≡ wantedShared size ⌝ }
 {
     Region {
-        kind: 3,
+        kind: SHARED,
         start: VirtAddr(0),
         size: size,
         flags: PageTableFlags(0),
-        fork: 0,
+        fork: COPY_ON_WRITE,
         per_thread: 0,
         pins: 0,
         file: 0,
@@ -91,12 +97,12 @@ pub fn shared_row(size: u64) -> Region
 }
 
 // A region with its start and a range.
-fn with_range(region: Region, start: u64, ranged: u64, range: u64) -> Region
-    ensures { λ r. ⌜ r ≡ withRange region start ranged range ⌝ }
+fn with_range(region: Region, start: VirtAddr, ranged: u64, range: PhysFrame) -> Region
+    ensures { λ r. ⌜ r ≡ withRange region (start .0) ranged (range .0) ⌝ }
 {
     Region {
         kind: region.kind,
-        start: VirtAddr(start),
+        start: start,
         size: region.size,
         flags: PageTableFlags(region.flags.0),
         fork: region.fork,
@@ -106,20 +112,20 @@ fn with_range(region: Region, start: u64, ranged: u64, range: u64) -> Region
         offset: region.offset,
         length: region.length,
         ranged: ranged,
-        range: PhysFrame(range),
+        range: range,
     }
 }
 
 // A region as it is stored: with its start, and its range if it has one.
-pub(crate) fn placed_at(region: Region, start: u64, run: Found) -> Region
-    ensures { λ r. ⌜ r ≡ placedAt region start run ⌝ }
+pub(crate) fn placed_at(region: Region, start: VirtAddr, run: FoundFrame) -> Region
+    ensures { λ r. ⌜ r ≡ placedAt region (start .0) (foundFrame run) ⌝ }
 {
     match run {
-        Found::At(frame) => {
-            return with_range(region, start, 1, frame as u64);
+        FoundFrame::At(frame) => {
+            return with_range(region, start, 1, frame);
         }
-        Found::Nothing => {
-            return with_range(region, start, 0, 0);
+        FoundFrame::Nothing => {
+            return with_range(region, start, 0, PhysFrame(0));
         }
     }
 }

@@ -62,10 +62,13 @@ unfolding putAt
 through l z new page m at n e p q =
     q ∙ ap (λ (t : List ℕ). putAt l at (take n t)) p ∙ ap (putAt l at) (take-at new (drop (0 + length new) z) n e)
 
-pub copy-is : (l z page m : List ℕ) (from to : ℕ) → from * 4096 + 4096 ≤ length l → page ≡ putAt z 0 (take 4096 (drop (from * 4096) l))
-    → m ≡ putAt l (to * 4096) (take 4096 (drop 0 page)) → m ≡ putFrame l to (frameBytes l from)
+-- the places i and j of two frames
+pub copy-is : (l z page m : List ℕ) (from to i j : ℕ) → i ≡ from * 4096 → j ≡ to * 4096 → from * 4096 + 4096 ≤ length l → page ≡ putAt z 0 (take 4096 (drop i l))
+    → m ≡ putAt l j (take 4096 (drop 0 page)) → m ≡ putFrame l to (frameBytes l from)
 unfolding frameBytes
-copy-is l z page m from to h p q =
+copy-is l z page m from to i j here there h read put =
+    let p = read ∙ ap (λ (k : ℕ). putAt z 0 (take 4096 (drop k l))) here in
+    let q = put ∙ ap (λ (k : ℕ). putAt l k (take 4096 (drop 0 page))) there in
     let part : List ℕ = take 4096 (drop (from * 4096) l) in
     let long : length part ≡ 4096 = length-part l (from * 4096) 4096 (omega arith) in
     through l z part page m (to * 4096) 4096 long p q ∙ put-frame l to part long
@@ -87,9 +90,11 @@ length-pad (suc n) (x ∷ b) = ap suc (length-pad n b)
 padded : (l b : List ℕ) (at n : ℕ) → length b ≤ n → at + n ≤ length l → putAt (putAt l at b) (at + length b) (zeros (n - length b)) ≡ putAt l at (pad n 0 b)
 padded l b at n short room = put-put l at b (zeros (n - length b)) (omega arith) ∙ ap (putAt l at) (pad-is n b short)
 
-pub fill-is : (l bytes m m' : List ℕ) (f at count : ℕ) → f * 4096 + 4096 ≤ length l → count ≤ 4096 → count ≤ length bytes - at → m ≡ putAt l (f * 4096) (take count (drop at bytes))
-    → m' ≡ putAt m (f * 4096 + count) (replicate (4096 - count) 0) → m' ≡ putFrame l f (pad 4096 0 (take count (drop at bytes)))
-fill-is l bytes m m' f at count h c r p q =
+pub fill-is : (l bytes m m' : List ℕ) (f i at count : ℕ) → i ≡ f * 4096 → f * 4096 + 4096 ≤ length l → count ≤ 4096 → count ≤ length bytes - at
+    → m ≡ putAt l i (take count (drop at bytes)) → m' ≡ putAt m (i + count) (replicate (4096 - count) 0) → m' ≡ putFrame l f (pad 4096 0 (take count (drop at bytes)))
+fill-is l bytes m m' f i at count here h c r put behind =
+    let p = put ∙ ap (λ (k : ℕ). putAt l k (take count (drop at bytes))) here in
+    let q = behind ∙ ap (λ (k : ℕ). putAt m (k + count) (replicate (4096 - count) 0)) here in
     let part : List ℕ = take count (drop at bytes) in
     let long : length part ≡ count = length-part bytes at count r in
     let short : length part ≤ 4096 = omega arith in

@@ -7,8 +7,11 @@ ghost use Rattle.model.specs.Machine.{regionAt, orderOf};
 ghost use Rattle.model.specs.Lookup.{contains, regionFor, anyRegionFor};
 ghost use Rattle.lookup.specs.Attached.{usedAt};
 use address::VirtAddr;
+use model::FREE;
 use model::Found;
+use model::REGIONS;
 use model::Region;
+use model::SLOTS;
 use rows::processes::process_at;
 use rows::slots::order_at;
 use rows::slots::region_at;
@@ -21,10 +24,10 @@ pub fn attached_count(words: &[u64], process: usize) -> usize
     ensures { λ r. ⌜ r ≤ 64 ⌝ }
 {
     let p = process_at(words, process);
-    if p.attached < 64 {
+    if p.attached < SLOTS as u64 {
         return p.attached as usize;
     }
-    64
+    SLOTS
 }
 
 // Whether a region holds an address.
@@ -43,8 +46,8 @@ pub fn slot_contains(words: &[u64], process: usize, slot: usize, addr: VirtAddr)
     requires { ⌜ process < 8 ⌝ }
     ensures { λ r. ⌜ r ≡ contains (regionAt (machine (now (words .entry))) process slot) (addr .0) ⌝ }
 {
-    if slot < 512 - process * 64 {
-        let region = region_at(words, process * 64 + slot);
+    if slot < REGIONS - process * SLOTS {
+        let region = region_at(words, process * SLOTS + slot);
         return region_contains(region, addr);
     }
     false
@@ -59,7 +62,7 @@ pub fn region_for(words: &[u64], process: usize, addr: VirtAddr) -> Found
     let n = attached_count(words, process);
     let mut i = 0;
     while i < n {
-        let slot = order_at(words, process * 64 + i) as usize;
+        let slot = order_at(words, process * SLOTS + i) as usize;
         if slot_contains(words, process, slot, addr) {
             return Found::At(slot);
         }
@@ -72,7 +75,7 @@ pub fn region_for(words: &[u64], process: usize, addr: VirtAddr) -> Found
 fn is_used_at(region: Region, addr: VirtAddr) -> bool
     ensures { λ r. ⌜ r ≡ usedAt (addr .0) region ⌝ }
 {
-    if region.kind == 0 {
+    if region.kind == FREE {
         return false;
     }
     region_contains(region, addr)
@@ -85,8 +88,8 @@ pub fn any_region_for(words: &[u64], process: usize, addr: VirtAddr) -> Found
     ensures { λ r. ⌜ r ≡ anyRegionFor (machine (now (words .entry))) process (addr .0) ⌝ }
 {
     let mut i = 0;
-    while i < 64 {
-        let region = region_at(words, process * 64 + i);
+    while i < SLOTS {
+        let region = region_at(words, process * SLOTS + i);
         if is_used_at(region, addr) {
             return Found::At(i);
         }

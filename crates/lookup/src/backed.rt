@@ -13,9 +13,12 @@ use address::Page;
 use address::PhysFrame;
 use model::Backed;
 use model::Backing;
+use model::ENTRIES;
 use model::Entry;
+use model::FRAMES;
 use model::Found;
 use model::Region;
+use model::SLOTS;
 use rows::backings::backing_at;
 use rows::pages::entry_at;
 use rows::slots::region_at;
@@ -28,7 +31,7 @@ pub fn backing_of(words: &[u64], process: usize, slot: usize, page: Page) -> Bac
     requires { ⌜ backingAt (machine (now words)) (regionAt (machine (now words)) process slot .range .0) .len ≤ 256 ⌝ }
     ensures { λ r. ⌜ r ≡ backing (machine (now (words .entry))) process slot (page .0) ⌝ }
 {
-    let row = process * 64 + slot;
+    let row = process * SLOTS + slot;
     let entry = by_entry(words, row as u64, page);
     let range = by_range(words, region_at(words, row), page);
     else_by(entry, range)
@@ -92,11 +95,7 @@ fn by_range(words: &[u64], region: Region, page: Page) -> Backed
 pub fn pages_past(region: Region, page: Page) -> u64
     ensures { λ r. ⌜ r ≡ pagesPast region (page .0) ⌝ }
 {
-    let first = region.start.0 / 4096;
-    if page.0 < first {
-        return 0;
-    }
-    page.0 - first
+    page.pages_past(Page::containing_address(region.start))
 }
 
 // The backing that starts at a frame; past the last row there is none.
@@ -104,7 +103,7 @@ pub fn backing_from(words: &[u64], frame: PhysFrame) -> Backing
     requires { ⌜ length (now words) ≡ wordCount ⌝ }
     ensures { λ r. ⌜ r ≡ backingAt (machine (now (words .entry))) (frame .0) ⌝ }
 {
-    if frame.0 < 256 {
+    if frame.0 < FRAMES as u64 {
         return backing_at(words, frame.0 as usize);
     }
     Backing { len: 0, holders: 0 }
@@ -117,7 +116,7 @@ pub fn next_entry(words: &[u64], row: u64, page: Page) -> Found
     ensures { λ r. ⌜ r ≡ nextEntry (machine (now (words .entry)) .entries) row (page .0) ⌝ }
 {
     let mut found = Found::Nothing;
-    let mut i = 512;
+    let mut i = ENTRIES;
     // Downwards: of equal pages the lowest row is seen last, and taken.
     while 0 < i {
         i -= 1;

@@ -10,8 +10,12 @@ ghost use Rattle.model.specs.Backing.{entryFor};
 ghost use Rattle.model.specs.Refusals.{closedRow};
 ghost use Rattle.lookup.specs.Lookups.{entryOf};
 use address::Page;
+use model::ENTRIES;
 use model::Entry;
+use model::FREE;
 use model::Found;
+use model::PROCESSES;
+use model::SLOTS;
 use rows::pages::entry_at;
 use rows::processes::process_at;
 use rows::slots::region_at;
@@ -21,7 +25,7 @@ pub fn is_open(words: &[u64], process: u64) -> bool
     requires { ⌜ length (now words) ≡ wordCount ⌝ }
     ensures { λ r. ⌜ r ≡ isOpen (machine (now (words .entry))) process ⌝ }
 {
-    if process < 8 {
+    if process < PROCESSES as u64 {
         let row = process_at(words, process as usize);
         return row.opened == 1;
     }
@@ -34,7 +38,7 @@ pub fn closed_process(words: &[u64]) -> Found
     ensures { λ r. ⌜ r ≡ closedRow (machine (now (words .entry))) ⌝ }
 {
     let mut i = 0;
-    while i < 8 {
+    while i < PROCESSES {
         let p = process_at(words, i);
         if p.opened == 0 {
             return Found::At(i);
@@ -51,9 +55,9 @@ pub fn free_slot(words: &[u64], process: usize) -> Found
     ensures { λ r. ⌜ r ≡ freeSlot (machine (now (words .entry))) process ⌝ }
 {
     let mut i = 0;
-    while i < 64 {
-        let r = region_at(words, process * 64 + i);
-        if r.kind == 0 {
+    while i < SLOTS {
+        let r = region_at(words, process * SLOTS + i);
+        if r.kind == FREE {
             return Found::At(i);
         }
         i += 1;
@@ -69,8 +73,8 @@ pub fn free_slots(words: &[u64], process: usize) -> usize
 {
     let mut n = 0;
     let mut i = 0;
-    while i < 64 {
-        let r = region_at(words, process * 64 + i);
+    while i < SLOTS {
+        let r = region_at(words, process * SLOTS + i);
         n += one_if_zero(r.kind);
         i += 1;
     }
@@ -83,7 +87,7 @@ pub fn free_entry(words: &[u64]) -> Found
     ensures { λ r. ⌜ r ≡ freeEntry (machine (now (words .entry))) ⌝ }
 {
     let mut i = 0;
-    while i < 512 {
+    while i < ENTRIES {
         let e = entry_at(words, i);
         if e.owner == 0 {
             return Found::At(i);
@@ -100,7 +104,7 @@ pub fn free_entries(words: &[u64]) -> usize
 {
     let mut n = 0;
     let mut i = 0;
-    while i < 512 {
+    while i < ENTRIES {
         let e = entry_at(words, i);
         n += one_if_zero(e.owner);
         i += 1;
@@ -115,7 +119,7 @@ pub fn entry_for(words: &[u64], row: u64, page: Page) -> Found
     ensures { λ r. ⌜ r ≡ entryFor (machine (now (words .entry))) row (page .0) ⌝ }
 {
     let mut i = 0;
-    while i < 512 {
+    while i < ENTRIES {
         let e = entry_at(words, i);
         if is_entry_of(e, row + 1, page) {
             return Found::At(i);

@@ -12,12 +12,25 @@ use Rattle.answers.specs.declared.Refusal.{Refusal}
 use Rattle.answers.specs.declared.Refusal.the-variants.{NoProcess, BadAddress, BadRange, BadFlags, NoFile, NoSpace, SegmentReserved, OutOfMemory, TableFull}
 use Rattle.model.specs.declared.Region.{Region}
 use Rattle.model.specs.declared.Place.{Place}
+use Rattle.model.specs.declared.ForkPolicy.{ForkPolicy}
+use Rattle.model.specs.declared.ForkPolicy.the-variants.{CopyOnWrite, CopyEager}
+use Rattle.model.specs.declared.Population.{Population}
+use Rattle.model.specs.declared.Population.the-variants.{Lazy, Eager}
 use Rattle.model.specs.declared.Found.{Found}
 use Rattle.model.specs.declared.Found.the-variants.{At, Nothing}
 use Rattle.model.specs.Machine.{Machine, State, withMachine, withFrames, withRegion, withOrder, orderOf, userEnd}
 use Rattle.model.specs.Lookup.{isOpen, isFile, isShared, pagesFor, freeSlot, rowFound, isFound}
 use Rattle.model.specs.Backing.{lowestRun, claim, zeroFrames}
 use Rattle.model.specs.Segments.{reserved, lowestStart}
+
+-- what a caller says of fork and of frames, as the calls take it
+abbrev pub isCopy : ForkPolicy → Bool
+isCopy CopyOnWrite = false
+isCopy CopyEager = true
+
+abbrev pub isEager : Population → Bool
+isEager Lazy = false
+isEager Eager = true
 
 -- the region that a caller asks for: a row with start, pins and range still 0
 abbrev pub wanted : ℕ → ℕ → ℕ → ℕ → ℕ → ℕ → ℕ → ℕ → Region

@@ -137,4 +137,4 @@ withMapped m p l =
 -- "Start": no process, no region, no backing; every frame free; the files as they are lent
 unfoldable pub emptyMachine : ℕ → List File → Machine
 emptyMachine frames files =
-    record { processes = replicate 8 noProcess; regions = replicate 512 noRegion; order = replicate 512 0; mapped = replicate 1024 noMapping; entries = replicate 512 noEntry; backings = replicate 256 noBacking; pool = record { free = frames; next = record { 0 = 0 } }; files = pad 8 noFile files; frameCount = frames; fileCount = length files }
+    record { processes = replicate processRows noProcess; regions = replicate 512 noRegion; order = replicate 512 0; mapped = replicate 1024 noMapping; entries = replicate entryRows noEntry; backings = replicate frameRows noBacking; pool = record { free = frames; next = record { 0 = 0 } }; files = pad fileRows noFile files; frameCount = frames; fileCount = length files }

@@ -13,7 +13,7 @@ use Rattle.answers.specs.declared.Refusal.the-variants.{BadTable, NoProcess, Ba
 use Rattle.model.specs.declared.File.{File}
 use Rattle.model.specs.declared.Found.{Found}
 use Rattle.laws.specs.Lists.{all}
-use Rattle.model.specs.Machine.{Machine, State, regionAt, userEnd, mostPins}
+use Rattle.model.specs.Machine.{Machine, State, regionAt, userEnd, mostPins, fileRows, frameRows}
 use Rattle.model.specs.Lookup.{isOpen, isShared, isPinned, isFound, rowFound, firstRow, regionFor, anyRegionFor}
 use Rattle.model.specs.Populate.{upperLast}
 use Rattle.model.specs.Carve.{badBounds}
@@ -39,7 +39,7 @@ slotAt s p a = rowFound (regionFor (s .machine) p a)
 -- "a frame length that doesn't fit is BadTable", and so are files that do not fit their bytes or the table
 unfoldable pub badLengths : State → List File → Bool
 badLengths s files =
-    not (eqb (length (s .frames) % 4096) 0) || (ltb 256 (length (s .frames) / 4096) || (ltb 8 (length files)
+    not (eqb (length (s .frames) % 4096) 0) || (ltb frameRows (length (s .frames) / 4096) || (ltb fileRows (length files)
     || not (all (λ f. leb (f .readable) 1 && leb (f .offset + f .len) (length (s .bytes))) files)))
 
 unfoldable pub startRefusals : State → List File → List (Bool × Refusal)

@@ -19,7 +19,7 @@ use Rattle.model.specs.declared.Backed.{Backed}
 use Rattle.model.specs.declared.Backed.the-variants.{ByEntry, ByRange, Unbacked}
 use Rattle.laws.specs.Lists.{part, keep, among, first}
 use Rattle.laws.specs.Tests.{Rows, Pairs}
-use Rattle.model.specs.Machine.{Machine, State, regionAt, orderOf, mappedOf, noProcess, noRegion, noMapping, noEntry, noBacking, noFile, userEnd, mostPins}
+use Rattle.model.specs.Machine.{Machine, State, regionAt, orderOf, mappedOf, noProcess, noRegion, noMapping, noEntry, noBacking, noFile, userEnd, mostPins, processRows, entryRows, fileRows, frameRows}
 use Rattle.model.specs.Lookup.{regionsOf, contains, segmentEnd, pagesFor, isUsed, isShared, isRanged, count}
 use Rattle.model.specs.Paging.{pageStart, isWritable, allFour}
 use Rattle.model.specs.Backing.{backing, backingAt, freeFrames}
@@ -128,15 +128,15 @@ R5 m = Rows noProcess (m .processes) (λ p q. Rows noMapping (mappedOf m p) (λ 
 
 -- "Table counts .. and the frame bytes' length fit"
 pub record Sized (s : State) : Type 0 where
-  pub processes : length (s .machine .processes) ≡ 8
+  pub processes : length (s .machine .processes) ≡ processRows
   pub regions : length (s .machine .regions) ≡ 512
   pub order : length (s .machine .order) ≡ 512
   pub mapped : length (s .machine .mapped) ≡ 1024
-  pub entries : length (s .machine .entries) ≡ 512
-  pub backings : length (s .machine .backings) ≡ 256
-  pub files : length (s .machine .files) ≡ 8
-  pub frameCount : s .machine .frameCount ≤ 256
-  pub fileCount : s .machine .fileCount ≤ 8
+  pub entries : length (s .machine .entries) ≡ entryRows
+  pub backings : length (s .machine .backings) ≡ frameRows
+  pub files : length (s .machine .files) ≡ fileRows
+  pub frameCount : s .machine .frameCount ≤ frameRows
+  pub fileCount : s .machine .fileCount ≤ fileRows
   pub frames : length (s .frames) ≡ s .machine .frameCount * 4096
 
 -- files are lent with their bytes; a row past the last file is free

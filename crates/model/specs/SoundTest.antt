@@ -16,7 +16,7 @@ use Rattle.model.specs.declared.Found.{Found}
 use Rattle.model.specs.declared.Found.the-variants.{At, Nothing}
 use Rattle.laws.specs.Lists.{part, among, first}
 use Rattle.laws.specs.Tests.{allRows, allPairs}
-use Rattle.model.specs.Machine.{Machine, State, regionAt, orderOf, mappedOf, noRegion, userEnd, mostPins}
+use Rattle.model.specs.Machine.{Machine, State, regionAt, orderOf, mappedOf, noRegion, userEnd, mostPins, processRows, entryRows, fileRows, frameRows}
 use Rattle.model.specs.Lookup.{regionsOf, contains, segmentEnd, pagesFor, isUsed}
 use Rattle.model.specs.Paging.{pageStart, isWritable, allFour}
 use Rattle.model.specs.Backing.{backing, backingAt}
@@ -98,9 +98,9 @@ freeFile f = eqb (f .readable + f .offset + f .len) 0
 unfoldable pub sizedb : State → Bool
 sizedb s =
     let m = s .machine in
-    eqb (length (m .processes)) 8 && (eqb (length (m .regions)) 512 && (eqb (length (m .order)) 512 && (eqb (length (m .mapped)) 1024
-    && (eqb (length (m .entries)) 512 && (eqb (length (m .backings)) 256 && (eqb (length (m .files)) 8
-    && (leb (m .frameCount) 256 && (leb (m .fileCount) 8 && eqb (length (s .frames)) (m .frameCount * 4096)))))))))
+    eqb (length (m .processes)) processRows && (eqb (length (m .regions)) 512 && (eqb (length (m .order)) 512 && (eqb (length (m .mapped)) 1024
+    && (eqb (length (m .entries)) entryRows && (eqb (length (m .backings)) frameRows && (eqb (length (m .files)) fileRows
+    && (leb (m .frameCount) frameRows && (leb (m .fileCount) fileRows && eqb (length (s .frames)) (m .frameCount * 4096)))))))))
 
 unfoldable pub fileFits : State → ℕ → File → Bool
 fileFits s i f = (not (ltb i (s .machine .fileCount)) || (leb (f .readable) 1 && leb (f .offset + f .len) (length (s .bytes)))) && (not (leb (s .machine .fileCount) i) || freeFile f)

@@ -1,9 +1,48 @@
 // The rows of the machine's tables and the answers of its calls. What they mean stands in specs/.
+ghost use mathlib.Core.Path.{_≡_};
+ghost use Rattle.model.specs.Create.{isCopy, isEager};
 use address::Page;
 use address::PageTableFlags;
 use address::PhysFrame;
 use address::VirtAddr;
 use answers::Refusal;
+
+// How many there are (RULES N3 to N8): slots and mapped pages of each process, regions and mappings of all.
+pub const PROCESSES: usize = 8;
+
+pub const SLOTS: usize = 64;
+
+pub const MAPPED_PAGES: usize = 128;
+
+pub const REGIONS: usize = 512;
+
+pub const MAPPINGS: usize = 1024;
+
+pub const ENTRIES: usize = 512;
+
+pub const FRAMES: usize = 256;
+
+pub const FILES: usize = 8;
+
+// The bytes of a frame, among the lent ones.
+pub const FRAME_BYTES: usize = 4096;
+
+// The most pins of a region (RULES N9).
+pub const MOST_PINS: u64 = 65535;
+
+// What a region slot's row says of its kind.
+pub const FREE: u64 = 0;
+
+pub const PRIVATE: u64 = 1;
+
+pub const FILE_BACKED: u64 = 2;
+
+pub const SHARED: u64 = 3;
+
+// What it says of its fork policy.
+pub const COPY_ON_WRITE: u64 = 0;
+
+pub const COPY_EAGER: u64 = 1;
 
 // One of the 8 processes: whether it is open, its arena, and how many rows of its lists are in use.
 pub struct Process {
@@ -14,8 +53,7 @@ pub struct Process {
     pub mapped: u64,
 }
 
-// A region slot. Kind 0 free, 1 Private, 2 FileBacked, 3 Shared; fork 0 CopyOnWrite, 1 CopyEager;
-// ranged 1 where it has a range, whose backing's first frame is `range`.
+// A region slot, by the numbers above; ranged 1 where it has a range, whose backing's first frame is `range`.
 pub struct Region {
     pub kind: u64,
     pub start: VirtAddr,
@@ -68,6 +106,42 @@ pub struct File {
 pub enum Place {
     At(VirtAddr),
     Lowest,
+}
+
+// What fork does with a region's pages: the Rust's ForkPolicy.
+pub enum ForkPolicy {
+    CopyOnWrite,
+    CopyEager,
+}
+
+impl ForkPolicy {
+    // Whether pages are copied at fork.
+    pub fn is_copy(self) -> bool
+        ensures { λ r. ⌜ r ≡ isCopy self ⌝ }
+    {
+        match self {
+            ForkPolicy::CopyOnWrite => false,
+            ForkPolicy::CopyEager => true,
+        }
+    }
+}
+
+// When a Private region gets its frames: page by page, or all of them when it is created.
+pub enum Population {
+    Lazy,
+    Eager,
+}
+
+impl Population {
+    // Whether it gets them when it is created.
+    pub fn is_eager(self) -> bool
+        ensures { λ r. ⌜ r ≡ isEager self ⌝ }
+    {
+        match self {
+            Population::Lazy => false,
+            Population::Eager => true,
+        }
+    }
 }
 
 // A row or slot that was looked for.

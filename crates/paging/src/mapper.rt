@@ -1,11 +1,11 @@
 // The mapper of a process's page table: pages mapped, unmapped and remapped, and a region's pages unmapped.
 ghost use mathlib.Core.Path.{_≡_};
-ghost use Prim.Native.Nat.{_+_, _<_, _≤_};
+ghost use Prim.Native.Nat.{_<_, _≤_};
 ghost use lib.ListN.{length};
 ghost use lib.Dec.{ltb};
 ghost use Rattle.model.specs.Layout.{wordCount, machine};
 ghost use Rattle.model.specs.Machine.{mappedOf};
-ghost use Rattle.model.specs.Lookup.{pagesFor, isFound};
+ghost use Rattle.model.specs.Lookup.{isFound};
 ghost use Rattle.paging.specs.Place.{rowFor, translateBy};
 ghost use Rattle.paging.specs.Mapper.{mappedPages, inserted, takenOut, mapBy, unmapBy, remapBy, unmapFromBy};
 use crate::mappings::clear;
@@ -22,6 +22,7 @@ use address::PageTableFlags;
 use address::PhysFrame;
 use address::VirtAddr;
 use model::Found;
+use model::MAPPED_PAGES;
 use model::Mapping;
 use model::Region;
 use model::Translated;
@@ -62,7 +63,7 @@ pub fn map(words: &mut [u64], process: usize, row: Mapping) -> bool
     ensures { λ _. ⌜ machine (now (words .exit)) ≡ mapBy (machine (now (words .entry))) process row ⌝ }
 {
     let n = mapped_count(&words[..], process);
-    if n < 128 {
+    if n < MAPPED_PAGES {
         let at = place(&words[..], process, Page(row.page.0));
         insert(words, process, at, n, row);
         return true;
@@ -77,15 +78,13 @@ pub fn unmap(words: &mut [u64], process: usize, page: Page) -> Translated
     ensures { λ r. ⌜ r ≡ translateBy (mappedOf (machine (now (words .entry))) process) (page .0) ⌝ }
     ensures { λ _. ⌜ machine (now (words .exit)) ≡ unmapBy (machine (now (words .entry))) process (page .0) ⌝ }
 {
-    match row_for(&words[..], process, page) {
-        Found::At(at) => {
-            let n = mapped_count(&words[..], process);
-            let row = row_at(&words[..], process, at);
-            take_out(words, process, at, at + 1, n);
-            Translated::Mapped(row)
-        }
-        Found::Nothing => Translated::NotMapped,
-    }
+    let Found::At(at) = row_for(&words[..], process, page) else {
+        return Translated::NotMapped;
+    };
+    let n = mapped_count(&words[..], process);
+    let row = row_at(&words[..], process, at);
+    take_out(words, process, at, at + 1, n);
+    Translated::Mapped(row)
 }
 
 // Gives a mapped page other flags; false, and nothing changes, where it is not mapped.
@@ -95,27 +94,17 @@ pub fn remap(words: &mut [u64], process: usize, page: Page, flags: PageTableFlag
     ensures { λ r. ⌜ r ≡ isFound (rowFor (mappedOf (machine (now (words .entry))) process) (page .0)) ⌝ }
     ensures { λ _. ⌜ machine (now (words .exit)) ≡ remapBy (machine (now (words .entry))) process (page .0) (flags .0) ⌝ }
 {
-    match row_for(&words[..], process, page) {
-        Found::At(at) => {
-            let row = row_at(&words[..], process, at);
-            let other = Mapping {
-                page: Page(row.page.0),
-                frame: PhysFrame(row.frame.0),
-                flags: flags,
-            };
-            put_row(words, process, at, other);
-            true
-        }
-        Found::Nothing => false,
-    }
-}
-
-// The first page that starts `len` bytes past an address or later, with no sum that could be too large.
-fn first_page(addr: VirtAddr, len: u64) -> Page
-    ensures { λ r. ⌜ r .0 ≡ pagesFor (addr .0 + len) ⌝ }
-{
-    let rest = addr.0 % 4096 + len % 4096;
-    Page(addr.0 / 4096 + len / 4096 + (rest + 4095) / 4096)
+    let Found::At(at) = row_for(&words[..], process, page) else {
+        return false;
+    };
+    let row = row_at(&words[..], process, at);
+    let other = Mapping {
+        page: Page(row.page.0),
+        frame: PhysFrame(row.frame.0),
+        flags: flags,
+    };
+    put_row(words, process, at, other);
+    true
 }
 
 // Unmaps all pages that start inside a region.
@@ -126,8 +115,8 @@ pub fn unmap_from(words: &mut [u64], process: usize, region: Region)
 {
     let n = mapped_count(&words[..], process);
     let start = region.start.0;
-    let first = first_page(VirtAddr(start), 0);
-    let end = first_page(VirtAddr(start), region.size);
+    let first = Page::starting_from(VirtAddr(start), 0);
+    let end = Page::starting_from(VirtAddr(start), region.size);
     let from = place(&words[..], process, first);
     let to = place(&words[..], process, end);
     if from < to {

@@ -11,6 +11,7 @@ use address::Page;
 use address::PageTableFlags;
 use address::PhysFrame;
 use address::VirtAddr;
+use model::MAPPED_PAGES;
 use model::Mapping;
 use model::Process;
 use rows::pages::put_mapping;
@@ -24,7 +25,7 @@ pub fn put_row(words: &mut [u64], process: usize, i: usize, row: Mapping)
     requires { ⌜ i < 128 ⌝ }
     ensures { λ _. ⌜ machine (now (words .exit)) ≡ withRows (machine (now (words .entry))) process (set (rowsOf (machine (now (words .entry))) process) i row) ⌝ }
 {
-    put_mapping(words, process * 128 + i, row);
+    put_mapping(words, process * MAPPED_PAGES + i, row);
 }
 
 // Puts the count of rows in use.

@@ -8,6 +8,7 @@ ghost use Rattle.paging.specs.Place.{place, standsAt, rowFor, translateB
 ghost use Rattle.paging.specs.ProcessRows.{rowsOf};
 use address::Page;
 use model::Found;
+use model::MAPPED_PAGES;
 use model::Mapping;
 use model::Translated;
 use rows::pages::mapping_at;
@@ -21,10 +22,10 @@ pub fn mapped_count(words: &[u64], process: usize) -> usize
     ensures { λ r. ⌜ r ≤ 128 ⌝ }
 {
     let p = process_at(words, process);
-    if p.mapped < 128 {
+    if p.mapped < MAPPED_PAGES as u64 {
         return p.mapped as usize;
     }
-    128
+    MAPPED_PAGES
 }
 
 // A row of a process's 128.
@@ -34,7 +35,7 @@ pub fn row_at(words: &[u64], process: usize, i: usize) -> Mapping
     requires { ⌜ i < 128 ⌝ }
     ensures { λ r. ⌜ r ≡ getD (rowsOf (machine (now (words .entry))) process) i noMapping ⌝ }
 {
-    mapping_at(words, process * 128 + i)
+    mapping_at(words, process * MAPPED_PAGES + i)
 }
 
 // How many mapped pages stand below a page: its row if it is mapped, and else the row that it would get.
@@ -91,11 +92,9 @@ pub fn translate(words: &[u64], process: usize, page: Page) -> Translated
     requires { ⌜ process < 8 ⌝ }
     ensures { λ r. ⌜ r ≡ translateBy (mappedOf (machine (now (words .entry))) process) (page .0) ⌝ }
 {
-    match row_for(words, process, page) {
-        Found::At(at) => {
-            let row = row_at(words, process, at);
-            Translated::Mapped(row)
-        }
-        Found::Nothing => Translated::NotMapped,
-    }
+    let Found::At(at) = row_for(words, process, page) else {
+        return Translated::NotMapped;
+    };
+    let row = row_at(words, process, at);
+    Translated::Mapped(row)
 }

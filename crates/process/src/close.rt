@@ -13,6 +13,7 @@ use answers::Refusal;
 use lookup::search::is_open;
 use model::Done;
 use model::Process;
+use model::SLOTS;
 use remove::clear::clear;
 use rows::processes::put_process;
 use rows::slots::region_at;
@@ -37,8 +38,8 @@ pub fn pin_stands(words: &[u64], process: usize) -> bool
     ensures { λ r. ⌜ r ≡ pinStands (machine (now (words .entry))) process ⌝ }
 {
     let mut i = 0;
-    while i < 64 {
-        let region = region_at(words, process * 64 + i);
+    while i < SLOTS {
+        let region = region_at(words, process * SLOTS + i);
         if 0 < region.pins {
             return true;
         }

@@ -7,6 +7,8 @@ ghost use Rattle.model.specs.Machine.{withProcesses};
 ghost use Rattle.model.specs.Calls.{openProcess, openedRow};
 ghost use Rattle.rows.specs.LentMemory.{DoesWords};
 ghost use Rattle.process.specs.Opening.{badArena};
+use address::PAGE_SIZE;
+use address::USER_END;
 use address::VirtAddr;
 use answers::Refusal;
 use lookup::search::closed_process;
@@ -38,13 +40,13 @@ fn is_bad_arena(start: VirtAddr, size: u64) -> bool
     if !start.is_aligned() {
         return true;
     }
-    if size % 4096 != 0 {
+    if size % PAGE_SIZE != 0 {
         return true;
     }
-    if 0x8000_0000_0000 < start.0 {
+    if USER_END < start.0 {
         return true;
     }
-    0x8000_0000_0000 - start.0 < size
+    USER_END - start.0 < size
 }
 
 // Opens the lowest closed process, of a sound machine.

@@ -11,8 +11,12 @@ ghost use Rattle.process.specs.Start.{fileIn, filesOf, fileFits, badSize
 use address::PhysFrame;
 use answers::Refusal;
 use model::Done;
+use model::FILES;
+use model::FRAME_BYTES;
+use model::FRAMES;
 use model::File;
 use model::Pool;
+use rows::WORD_COUNT;
 use rows::backings::put_frame_count;
 use rows::backings::put_pool;
 use rows::files::put_file;
@@ -66,13 +70,13 @@ fn is_bad_size(rows: &[u64], frames: usize, bytes: usize) -> bool
     if rows.len() % 3 != 0 {
         return true;
     }
-    if frames % 4096 != 0 {
+    if frames % FRAME_BYTES != 0 {
         return true;
     }
-    if 256 < frames / 4096 {
+    if FRAMES < frames / FRAME_BYTES {
         return true;
     }
-    if 8 < rows.len() / 3 {
+    if FILES < rows.len() / 3 {
         return true;
     }
     !files_fit(rows, bytes)
@@ -84,7 +88,7 @@ fn zero_words(words: &mut [u64])
     ensures { λ _. ⌜ Zeros (now (words .exit)) ⌝ }
 {
     let mut i = 0;
-    while i < 11844 {
+    while i < WORD_COUNT {
         words[i] = 0;
         i += 1;
     }
@@ -126,12 +130,12 @@ fn put_empty(words: &mut [u64], frames: usize, rows: &[u64])
 pub fn start(words: &mut [u64], frames: &[u8], files: &[u8], rows: &[u64]) -> Done
     ensures { λ r. ⌜ Starts (now (words .entry)) (now (frames .entry)) (now (files .entry)) (now (rows .entry)) (now (words .exit)) r ⌝ }
 {
-    if words.len() != 11844 {
+    if words.len() != WORD_COUNT {
         return Done::No(Refusal::BadTable);
     }
     if is_bad_size(rows, frames.len(), files.len()) {
         return Done::No(Refusal::BadTable);
     }
-    put_empty(words, frames.len() / 4096, rows);
+    put_empty(words, frames.len() / FRAME_BYTES, rows);
     Done::Yes
 }

@@ -7,6 +7,7 @@ ghost use Rattle.model.specs.Machine.{processAt};
 ghost use Rattle.regions.specs.Added.{withAdded};
 use crate::counts::put_attached;
 use model::Region;
+use model::SLOTS;
 use rows::processes::process_at;
 use rows::slots::put_order;
 use rows::slots::put_region;
@@ -20,7 +21,7 @@ pub fn add_region(words: &mut [u64], process: usize, slot: usize, region: Region
     ensures { λ _. ⌜ machine (now (words .exit)) ≡ withAdded (machine (now (words .entry))) process slot region ⌝ }
 {
     let p = process_at(&words[..], process);
-    put_region(words, process * 64 + slot, region);
-    put_order(words, process * 64 + p.attached as usize, slot as u64);
+    put_region(words, process * SLOTS + slot, region);
+    put_order(words, process * SLOTS + p.attached as usize, slot as u64);
     put_attached(words, process, p.attached + 1);
 }

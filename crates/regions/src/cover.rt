@@ -31,15 +31,11 @@ fn covered_until(words: &[u64], process: usize, addr: u64, end: u64) -> u64
     requires { ⌜ process < 8 ⌝ }
     ensures { λ r. ⌜ r ≡ coveredUntil (machine (now (words .entry))) process addr end ⌝ }
 {
-    match region_for(words, process, VirtAddr(addr)) {
-        Found::At(slot) => {
-            let region = region_in(words, process, slot);
-            return end_within(region, end);
-        }
-        Found::Nothing => {
-            return addr;
-        }
-    }
+    let Found::At(slot) = region_for(words, process, VirtAddr(addr)) else {
+        return addr;
+    };
+    let region = region_in(words, process, slot);
+    end_within(region, end)
 }
 
 // Whether every address from start up to end lies in an attached region. Each region is passed once.

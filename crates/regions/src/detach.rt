@@ -11,6 +11,7 @@ ghost use Rattle.rows.specs.With.{withOrderTable};
 ghost use Rattle.regions.specs.Detached.{other};
 use crate::counts::put_attached;
 use lookup::attached::attached_count;
+use model::SLOTS;
 use rows::slots::order_at;
 use rows::slots::put_order;
 
@@ -23,11 +24,11 @@ fn keep_place(words: &mut [u64], process: usize, place: usize, kept: usize, slot
     ensures { λ r. ⌜ r ≡ kept + length (keep (other slot) (getD (machine (now (words .entry)) .order) (process * 64 + place) 0 ∷ [])) ⌝ }
     ensures { λ _. ⌜ machine (now (words .exit)) ≡ withOrderTable (machine (now (words .entry))) (sets (machine (now (words .entry)) .order) (process * 64 + kept) (keep (other slot) (getD (machine (now (words .entry)) .order) (process * 64 + place) 0 ∷ []))) ⌝ }
 {
-    let here = order_at(&words[..], process * 64 + place);
+    let here = order_at(&words[..], process * SLOTS + place);
     if here == slot as u64 {
         return kept;
     }
-    put_order(words, process * 64 + kept, here);
+    put_order(words, process * SLOTS + kept, here);
     kept + 1
 }
 
@@ -57,8 +58,8 @@ fn clear_places(words: &mut [u64], process: usize, from: usize)
     ensures { λ _. ⌜ machine (now (words .exit)) ≡ withOrderTable (machine (now (words .entry))) (sets (machine (now (words .entry)) .order) (process * 64 + from) (replicate (64 - from) 0)) ⌝ }
 {
     let mut i = from;
-    while i < 64 {
-        put_order(words, process * 64 + i, 0);
+    while i < SLOTS {
+        put_order(words, process * SLOTS + i, 0);
         i += 1;
     }
 }

@@ -10,6 +10,7 @@ use crate::slot::region_in;
 use lookup::attached::attached_count;
 use model::Done;
 use model::Listed;
+use model::SLOTS;
 use rows::slots::order_at;
 
 // The start of the region at a place of list order.
@@ -19,7 +20,7 @@ fn start_at(words: &[u64], process: usize, place: usize) -> u64
     requires { ⌜ place < 64 ⌝ }
     ensures { λ r. ⌜ r ≡ regionAt (machine (now (words .entry))) process (getD (machine (now (words .entry)) .order) (process * 64 + place) 0) .start .0 ⌝ }
 {
-    let slot = order_at(words, process * 64 + place) as usize;
+    let slot = order_at(words, process * SLOTS + place) as usize;
     let region = region_in(words, process, slot);
     region.start.0
 }
@@ -31,7 +32,7 @@ pub fn starts(words: &[u64], process: usize) -> Listed
     ensures { λ r. ⌜ r ≡ listing (startsOf (machine (now (words .entry))) process (orderOf (machine (now (words .entry))) process)) ⌝ }
 {
     let n = attached_count(words, process);
-    let mut out = [0u64; 64];
+    let mut out = [0u64; SLOTS];
     let mut i = 0;
     while i < n {
         out[i] = start_at(words, process, i);

@@ -14,6 +14,7 @@ use model::Covering;
 use model::Done;
 use model::Listed;
 use model::Placed;
+use model::SLOTS;
 use rows::slots::region_at;
 
 // The start of the region at an address, of a sound machine.
@@ -25,7 +26,7 @@ pub fn region_core(words: &[u64], process: u64, addr: VirtAddr) -> Placed
     match region_named(words, process, addr) {
         Named::No(refusal) => Placed::No(refusal),
         Named::Slot(slot) => {
-            let row = region_at(words, process as usize * 64 + slot);
+            let row = region_at(words, process as usize * SLOTS + slot);
             let start = row.start;
             Placed::At(start)
         }
@@ -60,7 +61,7 @@ pub fn regions_core(words: &[u64], process: u64) -> Listed
             return Listed {
                 done: Done::No(refusal),
                 count: 0,
-                starts: [0u64; 64],
+                starts: [0u64; SLOTS],
             };
         }
         Done::Yes => {

@@ -7,7 +7,11 @@ ghost use Rattle.model.specs.Machine.{noRegion, regionAt};
 use address::PageTableFlags;
 use address::PhysFrame;
 use address::VirtAddr;
+use model::COPY_ON_WRITE;
+use model::FREE;
+use model::REGIONS;
 use model::Region;
+use model::SLOTS;
 use rows::slots::region_at;
 
 // A free slot's row.
@@ -15,11 +19,11 @@ pub fn no_region() -> Region
     ensures { λ r. ⌜ r ≡ noRegion ⌝ }
 {
     Region {
-        kind: 0,
+        kind: FREE,
         start: VirtAddr(0),
         size: 0,
         flags: PageTableFlags(0),
-        fork: 0,
+        fork: COPY_ON_WRITE,
         per_thread: 0,
         pins: 0,
         file: 0,
@@ -36,8 +40,8 @@ pub fn region_in(words: &[u64], process: usize, slot: usize) -> Region
     requires { ⌜ process < 8 ⌝ }
     ensures { λ r. ⌜ r ≡ regionAt (machine (now (words .entry))) process slot ⌝ }
 {
-    if slot < 512 - process * 64 {
-        return region_at(words, process * 64 + slot);
+    if slot < REGIONS - process * SLOTS {
+        return region_at(words, process * SLOTS + slot);
     }
     no_region()
 }

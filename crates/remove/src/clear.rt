@@ -6,6 +6,7 @@ ghost use Rattle.model.specs.Layout.{wordCount, machine};
 ghost use Rattle.remove.specs.Cleared.{FirstRemoved, Cleared};
 use crate::region::remove_region;
 use lookup::attached::attached_count;
+use model::SLOTS;
 use rows::slots::order_at;
 
 // Removes the first region of a process's list.
@@ -14,8 +15,8 @@ fn remove_first(words: &mut [u64], process: usize)
     requires { ⌜ process < 8 ⌝ }
     ensures { λ _. ⌜ FirstRemoved (machine (now (words .entry))) process (machine (now (words .exit))) ⌝ }
 {
-    let slot = order_at(&words[..], process * 64) as usize;
-    if slot < 64 {
+    let slot = order_at(&words[..], process * SLOTS) as usize;
+    if slot < SLOTS {
         remove_region(words, process, slot);
         return;
     }

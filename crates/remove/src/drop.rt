@@ -9,8 +9,11 @@ ghost use Rattle.remove.specs.SlotDropped.{RangeGone, SlotGone, Dropped}
 use address::Page;
 use address::PhysFrame;
 use backing::holders::release;
+use model::ENTRIES;
 use model::Entry;
+use model::FRAMES;
 use model::Region;
+use model::SLOTS;
 use regions::slot::no_region;
 use rows::pages::entry_at;
 use rows::pages::put_entry;
@@ -33,8 +36,8 @@ fn let_go(words: &mut [u64], frame: PhysFrame)
     requires { ⌜ length (now words) ≡ wordCount ⌝ }
     ensures { λ _. ⌜ LetsGo (machine (now (words .entry))) (frame .0) (machine (now (words .exit))) ⌝ }
 {
-    if frame.0 < 256 {
-        release(words, frame.0 as usize);
+    if frame.0 < FRAMES as u64 {
+        release(words, frame);
         return;
     }
 }
@@ -61,7 +64,7 @@ fn drop_entries(words: &mut [u64], row: usize)
     ensures { λ _. ⌜ EntriesGone (machine (now (words .entry))) row (machine (now (words .exit))) ⌝ }
 {
     let mut i = 0;
-    while i < 512 {
+    while i < ENTRIES {
         drop_entry(words, row, i);
         i += 1;
     }
@@ -96,6 +99,6 @@ pub fn drop_region(words: &mut [u64], process: usize, slot: usize)
     requires { ⌜ slot < 64 ⌝ }
     ensures { λ _. ⌜ Dropped (machine (now (words .entry))) process slot (machine (now (words .exit))) ⌝ }
 {
-    drop_entries(words, process * 64 + slot);
-    drop_slot(words, process * 64 + slot);
+    drop_entries(words, process * SLOTS + slot);
+    drop_slot(words, process * SLOTS + slot);
 }

@@ -5,7 +5,10 @@ ghost use lib.ListN.{length};
 ghost use Rattle.model.specs.Layout.{wordCount, machine};
 ghost use Rattle.model.specs.Segments.{reserved};
 ghost use Rattle.reserve.specs.InTheWay.{overUsed};
+use address::PAGE_SIZE;
+use model::FREE;
 use model::Region;
+use model::SLOTS;
 use rows::sizes::pages_for;
 use rows::slots::region_at;
 
@@ -14,11 +17,11 @@ fn is_over(region: Region, start: u64, len: u64) -> bool
     requires { ⌜ 0 < len ⌝ }
     ensures { λ r. ⌜ r ≡ overUsed start len region ⌝ }
 {
-    if region.kind == 0 {
+    if region.kind == FREE {
         return false;
     }
     if region.start.0 <= start {
-        return (start - region.start.0) / 4096 < pages_for(region.size);
+        return (start - region.start.0) / PAGE_SIZE < pages_for(region.size);
     }
     if region.size == 0 {
         return false;
@@ -36,8 +39,8 @@ pub fn reserved(words: &[u64], process: usize, start: u64, len: u64) -> bool
         return false;
     }
     let mut i = 0;
-    while i < 64 {
-        let region = region_at(words, process * 64 + i);
+    while i < SLOTS {
+        let region = region_at(words, process * SLOTS + i);
         if is_over(region, start, len) {
             return true;
         }

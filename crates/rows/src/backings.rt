@@ -5,6 +5,11 @@ ghost use lib.ListN.{length, getD, set};
 ghost use Rattle.model.specs.Layout.{wordCount, machine};
 ghost use Rattle.model.specs.Machine.{noBacking, withPool};
 ghost use Rattle.rows.specs.With.{withFrameCount};
+use crate::BACKING_WORDS;
+use crate::BACKINGS_AT;
+use crate::FRAME_COUNT_AT;
+use crate::POOL_FREE_AT;
+use crate::POOL_NEXT_AT;
 use address::PhysFrame;
 use model::Backing;
 use model::Pool;
@@ -15,7 +20,7 @@ pub fn backing_at(words: &[u64], i: usize) -> Backing
     requires { ⌜ i < 256 ⌝ }
     ensures { λ r. ⌜ r ≡ getD (machine (now (words .entry)) .backings) i noBacking ⌝ }
 {
-    let at = 11304 + i * 2;
+    let at = BACKINGS_AT + i * BACKING_WORDS;
     Backing {
         len: words[at],
         holders: words[at + 1],
@@ -28,7 +33,7 @@ pub fn put_backing(words: &mut [u64], i: usize, row: Backing)
     requires { ⌜ i < 256 ⌝ }
     ensures { λ _. ⌜ machine (now (words .exit)) ≡ withPool (machine (now (words .entry))) (set (machine (now (words .entry)) .backings) i row) (machine (now (words .entry)) .pool) ⌝ }
 {
-    let at = 11304 + i * 2;
+    let at = BACKINGS_AT + i * BACKING_WORDS;
     words[at] = row.len;
     words[at + 1] = row.holders;
 }
@@ -39,8 +44,8 @@ pub fn pool(words: &[u64]) -> Pool
     ensures { λ r. ⌜ r ≡ machine (now (words .entry)) .pool ⌝ }
 {
     Pool {
-        free: words[11816],
-        next: PhysFrame(words[11817]),
+        free: words[POOL_FREE_AT],
+        next: PhysFrame(words[POOL_NEXT_AT]),
     }
 }
 
@@ -49,8 +54,8 @@ pub fn put_pool(words: &mut [u64], row: Pool)
     requires { ⌜ length (now words) ≡ wordCount ⌝ }
     ensures { λ _. ⌜ machine (now (words .exit)) ≡ withPool (machine (now (words .entry))) (machine (now (words .entry)) .backings) row ⌝ }
 {
-    words[11816] = row.free;
-    words[11817] = row.next.0;
+    words[POOL_FREE_AT] = row.free;
+    words[POOL_NEXT_AT] = row.next.0;
 }
 
 // How many frames there are.
@@ -58,7 +63,7 @@ pub fn frame_count(words: &[u64]) -> u64
     requires { ⌜ length (now words) ≡ wordCount ⌝ }
     ensures { λ r. ⌜ r ≡ machine (now (words .entry)) .frameCount ⌝ }
 {
-    words[11842]
+    words[FRAME_COUNT_AT]
 }
 
 // Puts the number of frames.
@@ -66,5 +71,5 @@ pub fn put_frame_count(words: &mut [u64], count: u64)
     requires { ⌜ length (now words) ≡ wordCount ⌝ }
     ensures { λ _. ⌜ machine (now (words .exit)) ≡ withFrameCount (machine (now (words .entry))) count ⌝ }
 {
-    words[11842] = count;
+    words[FRAME_COUNT_AT] = count;
 }

@@ -5,6 +5,9 @@ ghost use lib.ListN.{length, getD, set};
 ghost use Rattle.model.specs.Layout.{wordCount, machine};
 ghost use Rattle.model.specs.Machine.{noFile};
 ghost use Rattle.rows.specs.With.{withFiles, withFileCount};
+use crate::FILE_COUNT_AT;
+use crate::FILE_WORDS;
+use crate::FILES_AT;
 use model::File;
 
 // The row of a file.
@@ -13,7 +16,7 @@ pub fn file_at(words: &[u64], i: usize) -> File
     requires { ⌜ i < 8 ⌝ }
     ensures { λ r. ⌜ r ≡ getD (machine (now (words .entry)) .files) i noFile ⌝ }
 {
-    let at = 11818 + i * 3;
+    let at = FILES_AT + i * FILE_WORDS;
     File {
         readable: words[at],
         offset: words[at + 1],
@@ -27,7 +30,7 @@ pub fn put_file(words: &mut [u64], i: usize, row: File)
     requires { ⌜ i < 8 ⌝ }
     ensures { λ _. ⌜ machine (now (words .exit)) ≡ withFiles (machine (now (words .entry))) (set (machine (now (words .entry)) .files) i row) ⌝ }
 {
-    let at = 11818 + i * 3;
+    let at = FILES_AT + i * FILE_WORDS;
     words[at] = row.readable;
     words[at + 1] = row.offset;
     words[at + 2] = row.len;
@@ -38,7 +41,7 @@ pub fn file_count(words: &[u64]) -> u64
     requires { ⌜ length (now words) ≡ wordCount ⌝ }
     ensures { λ r. ⌜ r ≡ machine (now (words .entry)) .fileCount ⌝ }
 {
-    words[11843]
+    words[FILE_COUNT_AT]
 }
 
 // Puts the number of files.
@@ -46,5 +49,5 @@ pub fn put_file_count(words: &mut [u64], count: u64)
     requires { ⌜ length (now words) ≡ wordCount ⌝ }
     ensures { λ _. ⌜ machine (now (words .exit)) ≡ withFileCount (machine (now (words .entry))) count ⌝ }
 {
-    words[11843] = count;
+    words[FILE_COUNT_AT] = count;
 }

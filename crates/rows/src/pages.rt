@@ -5,6 +5,10 @@ ghost use lib.ListN.{length, getD, set};
 ghost use Rattle.model.specs.Layout.{wordCount, machine};
 ghost use Rattle.model.specs.Machine.{noMapping, noEntry, withEntries};
 ghost use Rattle.rows.specs.With.{withMappedTable};
+use crate::ENTRIES_AT;
+use crate::ENTRY_WORDS;
+use crate::MAPPED_AT;
+use crate::MAPPED_WORDS;
 use address::Page;
 use address::PageTableFlags;
 use address::PhysFrame;
@@ -17,7 +21,7 @@ pub fn mapping_at(words: &[u64], i: usize) -> Mapping
     requires { ⌜ i < 1024 ⌝ }
     ensures { λ r. ⌜ r ≡ getD (machine (now (words .entry)) .mapped) i noMapping ⌝ }
 {
-    let at = 6696 + i * 3;
+    let at = MAPPED_AT + i * MAPPED_WORDS;
     Mapping {
         page: Page(words[at]),
         frame: PhysFrame(words[at + 1]),
@@ -31,7 +35,7 @@ pub fn put_mapping(words: &mut [u64], i: usize, row: Mapping)
     requires { ⌜ i < 1024 ⌝ }
     ensures { λ _. ⌜ machine (now (words .exit)) ≡ withMappedTable (machine (now (words .entry))) (set (machine (now (words .entry)) .mapped) i row) ⌝ }
 {
-    let at = 6696 + i * 3;
+    let at = MAPPED_AT + i * MAPPED_WORDS;
     words[at] = row.page.0;
     words[at + 1] = row.frame.0;
     words[at + 2] = row.flags.0;
@@ -43,7 +47,7 @@ pub fn entry_at(words: &[u64], i: usize) -> Entry
     requires { ⌜ i < 512 ⌝ }
     ensures { λ r. ⌜ r ≡ getD (machine (now (words .entry)) .entries) i noEntry ⌝ }
 {
-    let at = 9768 + i * 3;
+    let at = ENTRIES_AT + i * ENTRY_WORDS;
     Entry {
         owner: words[at],
         page: Page(words[at + 1]),
@@ -57,7 +61,7 @@ pub fn put_entry(words: &mut [u64], i: usize, row: Entry)
     requires { ⌜ i < 512 ⌝ }
     ensures { λ _. ⌜ machine (now (words .exit)) ≡ withEntries (machine (now (words .entry))) (set (machine (now (words .entry)) .entries) i row) ⌝ }
 {
-    let at = 9768 + i * 3;
+    let at = ENTRIES_AT + i * ENTRY_WORDS;
     words[at] = row.owner;
     words[at + 1] = row.page.0;
     words[at + 2] = row.frame.0;

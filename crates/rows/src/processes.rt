@@ -4,6 +4,7 @@ ghost use Prim.Native.Nat.{_<_};
 ghost use lib.ListN.{length, getD, set};
 ghost use Rattle.model.specs.Layout.{wordCount, machine};
 ghost use Rattle.model.specs.Machine.{noProcess, withProcesses};
+use crate::PROCESS_WORDS;
 use address::VirtAddr;
 use model::Process;
 
@@ -13,7 +14,7 @@ pub fn process_at(words: &[u64], i: usize) -> Process
     requires { ⌜ i < 8 ⌝ }
     ensures { λ r. ⌜ r ≡ getD (machine (now (words .entry)) .processes) i noProcess ⌝ }
 {
-    let at = i * 5;
+    let at = i * PROCESS_WORDS;
     Process {
         opened: words[at],
         start: VirtAddr(words[at + 1]),
@@ -29,7 +30,7 @@ pub fn put_process(words: &mut [u64], i: usize, row: Process)
     requires { ⌜ i < 8 ⌝ }
     ensures { λ _. ⌜ machine (now (words .exit)) ≡ withProcesses (machine (now (words .entry))) (set (machine (now (words .entry)) .processes) i row) ⌝ }
 {
-    let at = i * 5;
+    let at = i * PROCESS_WORDS;
     words[at] = row.opened;
     words[at + 1] = row.start.0;
     words[at + 2] = row.size;

@@ -5,6 +5,9 @@ ghost use lib.ListN.{length, getD, set};
 ghost use Rattle.model.specs.Layout.{wordCount, machine};
 ghost use Rattle.model.specs.Machine.{noRegion, withRegions};
 ghost use Rattle.rows.specs.With.{withOrderTable};
+use crate::ORDER_AT;
+use crate::SLOT_WORDS;
+use crate::SLOTS_AT;
 use address::PageTableFlags;
 use address::PhysFrame;
 use address::VirtAddr;
@@ -16,7 +19,7 @@ pub fn region_at(words: &[u64], i: usize) -> Region
     requires { ⌜ i < 512 ⌝ }
     ensures { λ r. ⌜ r ≡ getD (machine (now (words .entry)) .regions) i noRegion ⌝ }
 {
-    let at = 40 + i * 12;
+    let at = SLOTS_AT + i * SLOT_WORDS;
     Region {
         kind: words[at],
         start: VirtAddr(words[at + 1]),
@@ -39,7 +42,7 @@ pub fn put_region(words: &mut [u64], i: usize, row: Region)
     requires { ⌜ i < 512 ⌝ }
     ensures { λ _. ⌜ machine (now (words .exit)) ≡ withRegions (machine (now (words .entry))) (set (machine (now (words .entry)) .regions) i row) ⌝ }
 {
-    let at = 40 + i * 12;
+    let at = SLOTS_AT + i * SLOT_WORDS;
     words[at] = row.kind;
     words[at + 1] = row.start.0;
     words[at + 2] = row.size;
@@ -60,7 +63,7 @@ pub fn order_at(words: &[u64], i: usize) -> u64
     requires { ⌜ i < 512 ⌝ }
     ensures { λ r. ⌜ r ≡ getD (machine (now (words .entry)) .order) i 0 ⌝ }
 {
-    words[6184 + i]
+    words[ORDER_AT + i]
 }
 
 // Puts a slot at a place of list order.
@@ -69,5 +72,5 @@ pub fn put_order(words: &mut [u64], i: usize, slot: u64)
     requires { ⌜ i < 512 ⌝ }
     ensures { λ _. ⌜ machine (now (words .exit)) ≡ withOrderTable (machine (now (words .entry))) (set (machine (now (words .entry)) .order) i slot) ⌝ }
 {
-    words[6184 + i] = slot;
+    words[ORDER_AT + i] = slot;
 }

@@ -52,8 +52,8 @@ unshared-none k n = rw (ne-eqb k 3 n)
 pub is-entry-held : (e : Entry) (f : ℕ) → f ≡ placeOf (not (eqb (e .owner) 0)) (e .frame .0) → _≡_ {A = Held} (record { frame = f; page = e .page .0; shared = 0 }) (entryHeld e)
 is-entry-held e f p = λ t. record { frame = p t; page = e .page .0; shared = 0 }
 
-pub is-range-held : (r : Region) (b : Bool) → b ≡ (isUsed r && isRanged r) → (f : ℕ) → f ≡ placeOf b (r .range .0) → (s : ℕ) → s ≡ one (isShared r) → _≡_ {A = Held} (record { frame = f; page = r .start .0 / 4096; shared = s }) (rangeHeld r)
-is-range-held r b q f p s o = λ t. record { frame = (p ∙ ap (λ (x : Bool). placeOf x (r .range .0)) q) t; page = r .start .0 / 4096; shared = o t }
+pub is-range-held : (r : Region) (b : Bool) → b ≡ (isUsed r && isRanged r) → (f : ℕ) → f ≡ placeOf b (r .range .0) → (s : ℕ) → s ≡ one (isShared r) → (g : ℕ) → g ≡ r .start .0 / 4096 → _≡_ {A = Held} (record { frame = f; page = g; shared = s }) (rangeHeld r)
+is-range-held r b q f p s o g n = λ t. record { frame = (p ∙ ap (λ (x : Bool). placeOf x (r .range .0)) q) t; page = n t; shared = o t }
 
 -- ---- all rows
 

@@ -7,6 +7,7 @@ ghost use lib.Dec.{eqb};
 ghost use Rattle.model.specs.Layout.{wordCount, machine};
 ghost use Rattle.model.specs.SoundTest.{r2b};
 ghost use Rattle.sound_frames.specs.Met.{mayStart, withRow, withFree};
+use model::FRAMES;
 use rows::backings::backing_at;
 use rows::backings::frame_count;
 use rows::backings::pool;
@@ -31,7 +32,7 @@ pub fn backings_fit(words: &[u64]) -> bool
         next: count,
     };
     let mut f = 0;
-    while f < 256 {
+    while f < FRAMES as u64 {
         let b = backing_at(words, f as usize);
         if !may_start(met.end, f, b.len, count) {
             return false;

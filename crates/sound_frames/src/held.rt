@@ -8,10 +8,18 @@ ghost use Rattle.model.specs.Layout.{wordCount, machine};
 ghost use Rattle.model.specs.Lookup.{isUsed, isRanged};
 ghost use Rattle.model.specs.Create.{one};
 ghost use Rattle.sound_frames.specs.Held.{placeOf, entryHeld, rangeHeld, heldRows, noHeld};
+use address::Page;
+use model::ENTRIES;
 use model::Entry;
+use model::FRAMES;
+use model::FREE;
 use model::Region;
+use model::SHARED;
 use rows::pages::entry_at;
 use rows::slots::region_at;
+
+// How many there are.
+pub(crate) const HOLDERS: usize = 1024;
 
 // What an entry or a range holds: the backing's first frame, 256 where it holds none or none that can be marked, the page that it
 // is held at, and 1 for a Shared region.
@@ -28,11 +36,11 @@ pub fn held_by(words: &[u64], k: usize) -> Held
     ensures { λ r. ⌜ r ≡ getD (heldRows (machine (now (words .entry)))) k noHeld ⌝ }
     ensures { λ r. ⌜ r .frame < 257 ⌝ }
 {
-    if k < 512 {
+    if k < ENTRIES {
         let e = entry_at(words, k);
         return by_entry(e);
     }
-    let r = region_at(words, k - 512);
+    let r = region_at(words, k - ENTRIES);
     by_range(r)
 }
 
@@ -56,9 +64,10 @@ pub fn by_range(region: Region) -> Held
 {
     let frame = place_of(has_range(region), region.range.0);
     let shared = one_if_shared(region.kind);
+    let page = Page::containing_address(region.start);
     Held {
         frame,
-        page: region.start.0 / 4096,
+        page: page.0,
         shared,
     }
 }
@@ -67,7 +76,7 @@ pub fn by_range(region: Region) -> Held
 fn has_range(region: Region) -> bool
     ensures { λ r. ⌜ r ≡ (isUsed region && isRanged region) ⌝ }
 {
-    if region.kind == 0 {
+    if region.kind == FREE {
         return false;
     }
     region.ranged == 1
@@ -76,7 +85,7 @@ fn has_range(region: Region) -> bool
 fn one_if_shared(kind: u64) -> u64
     ensures { λ r. ⌜ r ≡ one (eqb kind 3) ⌝ }
 {
-    if kind == 3 {
+    if kind == SHARED {
         return 1;
     }
     0
@@ -88,10 +97,10 @@ fn place_of(is_held: bool, frame: u64) -> usize
     ensures { λ r. ⌜ r < 257 ⌝ }
 {
     if !is_held {
-        return 256;
+        return FRAMES;
     }
-    if frame < 256 {
+    if frame < FRAMES as u64 {
         return frame as usize;
     }
-    256
+    FRAMES
 }

@@ -6,9 +6,12 @@ ghost use Rattle.model.specs.Layout.{wordCount, machine};
 ghost use Rattle.model.specs.SoundTest.{r3b};
 ghost use Rattle.sound_frames.specs.Tally.{Tallied, heldTimes, freeUnheld};
 ghost use Rattle.sound_frames.specs.Tally.{Counts};
+use crate::held::HOLDERS;
 use crate::held::by_entry;
 use crate::held::by_range;
 use model::Backing;
+use model::ENTRIES;
+use model::FRAMES;
 use rows::backings::backing_at;
 use rows::pages::entry_at;
 use rows::slots::region_at;
@@ -20,7 +23,7 @@ pub fn counted(words: &[u64]) -> bool
 {
     let counts = tally(words);
     let mut f = 0;
-    while f < 256 {
+    while f < FRAMES {
         let b = backing_at(words, f);
         if !is_held(b, counts[f] as u64) {
             return false;
@@ -44,12 +47,12 @@ fn is_held(b: Backing, times: u64) -> bool
 }
 
 // How many hold each frame.
-fn tally(words: &[u64]) -> [u16; 256]
+fn tally(words: &[u64]) -> [u16; FRAMES]
     requires { ⌜ length (now words) ≡ wordCount ⌝ }
     ensures { λ r. ⌜ length r ≡ 256 ⌝ }
     ensures { λ r. ⌜ Tallied (machine (now (words .entry))) r ⌝ }
 {
-    let mut counts = [0; 256];
+    let mut counts = [0; FRAMES];
     tally_entries(words, &mut counts);
     tally_ranges(words, &mut counts);
     counts
@@ -62,12 +65,12 @@ fn tally_entries(words: &[u64], counts: &mut [u16])
     ensures { λ _. ⌜ Counts (now (words .entry)) (now (counts .exit)) 512 ⌝ }
 {
     let mut k = 0;
-    while k < 512 {
+    while k < ENTRIES {
         let entry = entry_at(words, k);
         let h = by_entry(entry);
         let frame = h.frame;
         k += 1;
-        if frame == 256 {
+        if frame == FRAMES {
             continue;
         }
         counts[frame] += 1;
@@ -80,13 +83,13 @@ fn tally_ranges(words: &[u64], counts: &mut [u16])
     requires { ⌜ Counts (now words) (now counts) 512 ⌝ }
     ensures { λ _. ⌜ Counts (now (words .entry)) (now (counts .exit)) 1024 ⌝ }
 {
-    let mut k = 512;
-    while k < 1024 {
-        let region = region_at(words, k - 512);
+    let mut k = ENTRIES;
+    while k < HOLDERS {
+        let region = region_at(words, k - ENTRIES);
         let h = by_range(region);
         let frame = h.frame;
         k += 1;
-        if frame == 256 {
+        if frame == FRAMES {
             continue;
         }
         counts[frame] += 1;

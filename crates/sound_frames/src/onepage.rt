@@ -14,6 +14,7 @@ use crate::held::Held;
 use crate::held::by_entry;
 use crate::held::by_range;
 use crate::held::held_by;
+use model::FRAMES;
 use rows::pages::entry_at;
 use rows::slots::region_at;
 
@@ -22,7 +23,7 @@ pub fn one_page(words: &[u64]) -> bool
     requires { ⌜ length (now words) ≡ wordCount ⌝ }
     ensures { λ r. ⌜ (HoldersFit (machine (now (words .entry))) → r ≡ allPairs (λ h. true) alike (holds (machine (now (words .entry))))) ⌝ }
 {
-    let mut marks: [u16; 256] = [0; 256];
+    let mut marks: [u16; FRAMES] = [0; FRAMES];
     if !entries_alike(words, &mut marks) {
         return false;
     }
@@ -41,7 +42,7 @@ fn entries_alike(words: &[u64], marks: &mut [u16]) -> bool
         let h = by_entry(entry);
         let frame = h.frame;
         k += 1;
-        if frame == 256 {
+        if frame == FRAMES {
             continue;
         }
         let mark = first_mark(marks[frame], k);
@@ -65,7 +66,7 @@ fn ranges_alike(words: &[u64], marks: &mut [u16]) -> bool
         let h = by_range(region);
         let frame = h.frame;
         k += 1;
-        if frame == 256 {
+        if frame == FRAMES {
             continue;
         }
         let mark = first_mark(marks[frame], k);

@@ -12,7 +12,11 @@ ghost use Rattle.model.specs.Lookup.{pagesFor, regionsOf, isUsed};
 ghost use Rattle.laws.specs.Tests.{allPairs};
 ghost use Rattle.model.specs.SoundTest.{apartb, r1b};
 ghost use Rattle.laws.specs.Rest.{later};
+use address::PAGE_SIZE;
+use model::FREE;
+use model::PROCESSES;
 use model::Region;
+use model::SLOTS;
 use rows::sizes::pages_for;
 use rows::slots::region_at;
 
@@ -21,7 +25,7 @@ pub fn ends_by(start: u64, size: u64, addr: u64) -> bool
     ensures { λ r. ⌜ r ≡ leb (start + pagesFor size * 4096) addr ⌝ }
 {
     if start <= addr {
-        return pages_for(size) <= (addr - start) / 4096;
+        return pages_for(size) <= (addr - start) / PAGE_SIZE;
     }
     false
 }
@@ -30,7 +34,7 @@ pub fn ends_by(start: u64, size: u64, addr: u64) -> bool
 fn is_apart(region: Region, other: Region) -> bool
     ensures { λ r. ⌜ r ≡ apartb region other ⌝ }
 {
-    if other.kind == 0 {
+    if other.kind == FREE {
         return true;
     }
     if ends_by(region.start.0, region.size, other.start.0) {
@@ -47,8 +51,8 @@ fn is_apart_from_later(words: &[u64], process: usize, slot: usize, region: Regio
     ensures { λ r. ⌜ r ≡ all (apartb region) (drop (slot + 1) (regionsOf (machine (now (words .entry))) process)) ⌝ }
 {
     let mut next = slot + 1;
-    while next < 64 {
-        let other = region_at(words, process * 64 + next);
+    while next < SLOTS {
+        let other = region_at(words, process * SLOTS + next);
         if !is_apart(region, other) {
             return false;
         }
@@ -64,8 +68,8 @@ fn slot_is_apart(words: &[u64], process: usize, slot: usize) -> bool
     requires { ⌜ slot < 64 ⌝ }
     ensures { λ r. ⌜ r ≡ later isUsed apartb (regionsOf (machine (now (words .entry))) process) slot (getD (regionsOf (machine (now (words .entry))) process) slot noRegion) ⌝ }
 {
-    let region = region_at(words, process * 64 + slot);
-    if region.kind == 0 {
+    let region = region_at(words, process * SLOTS + slot);
+    if region.kind == FREE {
         return true;
     }
     is_apart_from_later(words, process, slot, region)
@@ -78,7 +82,7 @@ fn pairs_are_apart(words: &[u64], process: usize) -> bool
     ensures { λ r. ⌜ r ≡ allPairs isUsed apartb (regionsOf (machine (now (words .entry))) process) ⌝ }
 {
     let mut i = 0;
-    while i < 64 {
+    while i < SLOTS {
         if !slot_is_apart(words, process, i) {
             return false;
         }
@@ -96,10 +100,10 @@ fn segments_rise(words: &[u64], process: usize) -> bool
     let mut start = 0;
     let mut size = 0;
     let mut i = 0;
-    while i < 64 {
-        let region = region_at(words, process * 64 + i);
+    while i < SLOTS {
+        let region = region_at(words, process * SLOTS + i);
         i += 1;
-        if region.kind == 0 {
+        if region.kind == FREE {
             continue;
         }
         if !ends_by(start, size, region.start.0) {
@@ -129,7 +133,7 @@ pub fn disjoint(words: &[u64]) -> bool
     ensures { λ r. ⌜ r ≡ r1b (machine (now (words .entry))) ⌝ }
 {
     let mut i = 0;
-    while i < 8 {
+    while i < PROCESSES {
         if !process_is_disjoint(words, i) {
             return false;
         }

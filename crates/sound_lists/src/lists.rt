@@ -12,7 +12,10 @@ ghost use Rattle.model.specs.SoundTest.{eachProcess, listedb, orderedb};
 ghost use Rattle.sound_lists.specs.Marks.{marked};
 ghost use Rattle.sound_lists.specs.ListOrder.{isZero, pinnedIfUnmarked};
 use lookup::attached::attached_count;
+use model::FREE;
+use model::PROCESSES;
 use model::Region;
+use model::SLOTS;
 use rows::slots::order_at;
 use rows::slots::region_at;
 
@@ -24,11 +27,11 @@ fn mark_listed(words: &[u64], process: usize, slot: u64, marks: &mut [u8]) -> bo
     ensures { λ r. ⌜ r ≡ (listedb (machine (now (words .entry))) process slot && not (marked (now (marks .entry)) slot)) ⌝ }
     ensures { λ r. ⌜ (r ≡ true → now (marks .exit) ≡ set (now (marks .entry)) slot 1) ⌝ }
 {
-    if slot >= 64 {
+    if slot >= SLOTS as u64 {
         return false;
     }
-    let region = region_at(words, process * 64 + slot as usize);
-    if region.kind == 0 {
+    let region = region_at(words, process * SLOTS + slot as usize);
+    if region.kind == FREE {
         return false;
     }
     if marks[slot as usize] != 0 {
@@ -46,8 +49,8 @@ fn places_are_zero(words: &[u64], process: usize, from: usize) -> bool
     ensures { λ r. ⌜ r ≡ all isZero (drop from (part 64 process (machine (now (words .entry)) .order))) ⌝ }
 {
     let mut i = from;
-    while i < 64 {
-        if order_at(words, process * 64 + i) != 0 {
+    while i < SLOTS {
+        if order_at(words, process * SLOTS + i) != 0 {
             return false;
         }
         i += 1;
@@ -59,7 +62,7 @@ fn places_are_zero(words: &[u64], process: usize, from: usize) -> bool
 fn is_pinned_if_unmarked(region: Region, mark: u8) -> bool
     ensures { λ r. ⌜ r ≡ pinnedIfUnmarked mark region ⌝ }
 {
-    if region.kind == 0 {
+    if region.kind == FREE {
         return true;
     }
     if mark != 0 {
@@ -76,8 +79,8 @@ fn unmarked_are_pinned(words: &[u64], process: usize, marks: &[u8]) -> bool
     ensures { λ r. ⌜ r ≡ allRows (λ s x. pinnedIfUnmarked (getD (now (marks .entry)) s 0) x) 0 (regionsOf (machine (now (words .entry))) process) ⌝ }
 {
     let mut i = 0;
-    while i < 64 {
-        let region = region_at(words, process * 64 + i);
+    while i < SLOTS {
+        let region = region_at(words, process * SLOTS + i);
         if !is_pinned_if_unmarked(region, marks[i]) {
             return false;
         }
@@ -93,10 +96,10 @@ fn process_is_ordered(words: &[u64], process: usize) -> bool
     ensures { λ r. ⌜ r ≡ orderedb (machine (now (words .entry))) process (getD (machine (now (words .entry)) .processes) process noProcess) ⌝ }
 {
     let n = attached_count(words, process);
-    let mut marks = [0u8; 64];
+    let mut marks = [0u8; SLOTS];
     let mut i = 0;
     while i < n {
-        let slot = order_at(words, process * 64 + i);
+        let slot = order_at(words, process * SLOTS + i);
         if !mark_listed(words, process, slot, &mut marks) {
             return false;
         }
@@ -114,7 +117,7 @@ pub fn ordered(words: &[u64]) -> bool
     ensures { λ r. ⌜ r ≡ eachProcess (machine (now (words .entry))) (orderedb (machine (now (words .entry)))) ⌝ }
 {
     let mut i = 0;
-    while i < 8 {
+    while i < PROCESSES {
         if !process_is_ordered(words, i) {
             return false;
         }

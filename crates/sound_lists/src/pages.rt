@@ -7,7 +7,9 @@ ghost use Rattle.laws.specs.Lists.{all, part};
 ghost use Rattle.model.specs.Machine.{noProcess, noMapping, mappedOf};
 ghost use Rattle.model.specs.SoundTest.{eachProcess, freeMapping, pagedb};
 ghost use Rattle.sound_lists.specs.PageOrder.{rising, follows};
+use model::MAPPED_PAGES;
 use model::Mapping;
+use model::PROCESSES;
 use paging::search::mapped_count;
 use rows::pages::mapping_at;
 
@@ -21,8 +23,8 @@ fn page_follows(words: &[u64], process: usize, place: usize) -> bool
     if place == 0 {
         return true;
     }
-    let before = mapping_at(words, process * 128 + (place - 1));
-    let mapping = mapping_at(words, process * 128 + place);
+    let before = mapping_at(words, process * MAPPED_PAGES + (place - 1));
+    let mapping = mapping_at(words, process * MAPPED_PAGES + place);
     before.page.0 < mapping.page.0
 }
 
@@ -64,8 +66,8 @@ fn rows_are_free(words: &[u64], process: usize, from: usize) -> bool
     ensures { λ r. ⌜ r ≡ all freeMapping (drop from (part 128 process (machine (now (words .entry)) .mapped))) ⌝ }
 {
     let mut i = from;
-    while i < 128 {
-        let row = mapping_at(words, process * 128 + i);
+    while i < MAPPED_PAGES {
+        let row = mapping_at(words, process * MAPPED_PAGES + i);
         if !is_free(row) {
             return false;
         }
@@ -93,7 +95,7 @@ pub fn paged(words: &[u64]) -> bool
     ensures { λ r. ⌜ r ≡ eachProcess (machine (now (words .entry))) (pagedb (machine (now (words .entry)))) ⌝ }
 {
     let mut i = 0;
-    while i < 8 {
+    while i < PROCESSES {
         if !process_is_paged(words, i) {
             return false;
         }

@@ -17,6 +17,7 @@ ghost use Rattle.sound_pages.specs.MappedTests.{isOwn};
 ghost use Rattle.sound_pages.specs.MappedSpans.{ProcessOf, Spanned, Unspanned, Spans};
 ghost use Rattle.sound_pages.specs.MappedEntries.{RowOf, After, AfterAll};
 ghost use Rattle.sound_pages.specs.MappedRows.{AttachedAt, holdsIn, fittingHome};
+use address::PAGE_COUNT;
 use address::Page;
 use address::PageTableFlags;
 use address::VirtAddr;
@@ -24,10 +25,16 @@ use lookup::attached::region_for;
 use lookup::attached::slot_contains;
 use lookup::backed::backing_from;
 use lookup::backed::pages_past;
+use model::ENTRIES;
 use model::Entry;
 use model::Found;
+use model::MAPPED_PAGES;
 use model::Mapping;
+use model::PROCESSES;
+use model::REGIONS;
 use model::Region;
+use model::SHARED;
+use model::SLOTS;
 use paging::search::mapped_count;
 use paging::search::row_at;
 use paging::search::row_for;
@@ -56,7 +63,7 @@ fn is_own(own: PageTableFlags, flags: PageTableFlags) -> bool
 fn flags_fit(region: Region, flags: PageTableFlags, holders: u64) -> bool
     ensures { λ r. ⌜ r ≡ flaggedb region (flags .0) holders ⌝ }
 {
-    if region.kind == 3 {
+    if region.kind == SHARED {
         return flags.0 == 0x8000_0000_0000_0007;
     }
     if !is_own(region.flags, flags) {
@@ -73,9 +80,9 @@ fn is_of(entry: Entry, process: usize) -> bool
     requires { ⌜ process < 8 ⌝ }
     ensures { λ r. ⌜ r ≡ ofProcess process entry ⌝ }
 {
-    let first = process as u64 * 64;
+    let first = process as u64 * SLOTS as u64;
     if first < entry.owner {
-        return entry.owner <= first + 64;
+        return entry.owner <= first + SLOTS as u64;
     }
     false
 }
@@ -192,10 +199,10 @@ fn home_near(words: &[u64], process: usize, page: Page, last: Found) -> Found
     requires { ⌜ process < 8 ⌝ }
     ensures { λ r. ⌜ (Laid (machine (now (words .entry))) → AttachedAt (machine (now (words .entry))) process last → r ≡ homeAt (machine (now (words .entry))) process (page .0)) ⌝ }
 {
-    if page.0 >= 0x10_0000_0000_0000 {
+    if page.0 >= PAGE_COUNT {
         return Found::Nothing;
     }
-    let start = VirtAddr(page.0 * 4096);
+    let start = page.start_address();
     if found_contains(words, process, last, start) {
         return last;
     }
@@ -208,13 +215,13 @@ fn is_backed(words: &[u64], process: usize, slot: usize, mapping: Mapping, mark:
     requires { ⌜ process < 8 ⌝ }
     ensures { λ r. ⌜ (slot < 64 → r ≡ (not (eqb mark 0) || rangeAllows (machine (now (words .entry))) (regionAt (machine (now (words .entry))) process slot) mapping)) ⌝ }
 {
-    if slot >= 64 {
+    if slot >= SLOTS {
         return false;
     }
     if mark != 0 {
         return true;
     }
-    let region = region_at(words, process * 64 + slot);
+    let region = region_at(words, process * SLOTS + slot);
     range_allows(words, region, mapping)
 }
 
@@ -266,7 +273,7 @@ fn process_mapped_fit(words: &[u64], process: usize, from: usize, to: usize) -> 
     if n == 0 {
         return true;
     }
-    let mut marks = [0u8; 128];
+    let mut marks = [0u8; MAPPED_PAGES];
     if !mark_entries(words, process, from, to, &mut marks) {
         return false;
     }
@@ -278,12 +285,12 @@ fn process_of(entry: Entry) -> usize
     ensures { λ r. ⌜ ProcessOf entry r ⌝ }
 {
     if entry.owner == 0 {
-        return 8;
+        return PROCESSES;
     }
-    if 512 < entry.owner {
-        return 8;
+    if (REGIONS as u64) < entry.owner {
+        return PROCESSES;
     }
-    ((entry.owner - 1) / 64) as usize
+    ((entry.owner - 1) / SLOTS as u64) as usize
 }
 
 // Of each process the row of the first entry, 512 where it has none, and the row after the last. An entry of the same process as
@@ -293,14 +300,14 @@ fn span_entries(words: &[u64], firsts: &mut [usize], pasts: &mut [usize])
     requires { ⌜ Unspanned (now firsts) (now pasts) ⌝ }
     ensures { λ _. ⌜ Spans (machine (now (words .entry))) (now (firsts .exit)) (now (pasts .exit)) 512 ⌝ }
 {
-    let mut last = 8;
+    let mut last = PROCESSES;
     let mut i = 0;
-    while i < 512 {
+    while i < ENTRIES {
         let row = i;
         let entry = entry_at(words, row);
         let process = process_of(entry);
         i += 1;
-        if process == 8 {
+        if process == PROCESSES {
             continue;
         }
         pasts[process] = i;
@@ -308,7 +315,7 @@ fn span_entries(words: &[u64], firsts: &mut [usize], pasts: &mut [usize])
             continue;
         }
         last = process;
-        if firsts[process] != 512 {
+        if firsts[process] != ENTRIES {
             continue;
         }
         firsts[process] = row;
@@ -320,11 +327,11 @@ pub fn mapped_fit(words: &[u64]) -> bool
     requires { ⌜ length (now words) ≡ wordCount ⌝ }
     ensures { λ r. ⌜ (Laid (machine (now (words .entry))) → r ≡ (r4b (machine (now (words .entry))) && r5b (machine (now (words .entry))))) ⌝ }
 {
-    let mut firsts: [usize; 8] = [512; 8];
-    let mut pasts: [usize; 8] = [0; 8];
+    let mut firsts: [usize; PROCESSES] = [ENTRIES; PROCESSES];
+    let mut pasts: [usize; PROCESSES] = [0; PROCESSES];
     span_entries(words, &mut firsts, &mut pasts);
     let mut i = 0;
-    while i < 8 {
+    while i < PROCESSES {
         if !process_mapped_fit(words, i, firsts[i], pasts[i]) {
             return false;
         }

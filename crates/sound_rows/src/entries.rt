@@ -8,12 +8,17 @@ ghost use Rattle.model.specs.Paging.{pageStart};
 ghost use Rattle.laws.specs.Tests.{allRows};
 ghost use Rattle.model.specs.SoundTest.{freeEntryRow, enteredb, entryFits};
 ghost use Rattle.sound_rows.specs.EntryRow.{takesEntry};
+use address::PAGE_COUNT;
+use address::PAGE_SIZE;
 use address::Page;
-use address::VirtAddr;
 use lookup::attached::region_contains;
 use lookup::backed::backing_from;
+use model::ENTRIES;
 use model::Entry;
+use model::FREE;
+use model::REGIONS;
 use model::Region;
+use model::SHARED;
 use rows::pages::entry_at;
 use rows::sizes::pages_for;
 use rows::slots::region_at;
@@ -24,7 +29,7 @@ pub fn entries_fit(words: &[u64]) -> bool
     ensures { λ r. ⌜ r ≡ allRows (λ i e. entryFits (machine (now (words .entry))) e) 0 (machine (now (words .entry)) .entries) ⌝ }
 {
     let mut i = 0;
-    while i < 512 {
+    while i < ENTRIES {
         let row = entry_at(words, i);
         if !entry_fits(words, row) {
             return false;
@@ -42,7 +47,7 @@ fn entry_fits(words: &[u64], entry: Entry) -> bool
     if entry.owner == 0 {
         return is_free_entry(entry);
     }
-    if 512 < entry.owner {
+    if (REGIONS as u64) < entry.owner {
         return false;
     }
     entered(words, entry)
@@ -74,10 +79,10 @@ fn entered(words: &[u64], entry: Entry) -> bool
 fn takes_entry(region: Region, page: Page) -> bool
     ensures { λ r. ⌜ r ≡ takesEntry region (page .0) ⌝ }
 {
-    if region.kind == 0 {
+    if region.kind == FREE {
         return false;
     }
-    if region.kind == 3 {
+    if region.kind == SHARED {
         return false;
     }
     starts_in(region, page)
@@ -87,9 +92,8 @@ fn takes_entry(region: Region, page: Page) -> bool
 fn starts_in(region: Region, page: Page) -> bool
     ensures { λ r. ⌜ r ≡ contains region (pageStart (page .0)) ⌝ }
 {
-    if page.0 < 0x10_0000_0000_0000 {
-        let start = VirtAddr(page.0 * 4096);
-        return region_contains(region, start);
+    if page.0 < PAGE_COUNT {
+        return region_contains(region, page.start_address());
     }
     starts_far(region, page)
 }
@@ -102,7 +106,7 @@ fn starts_far(region: Region, page: Page) -> bool
     if page.0 < first {
         return false;
     }
-    let skipped = (4096 - region.start.0 % 4096) % 4096;
+    let skipped = (PAGE_SIZE - region.start.page_offset()) % PAGE_SIZE;
     if region.size <= skipped {
         return false;
     }

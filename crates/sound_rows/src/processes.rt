@@ -7,7 +7,13 @@ ghost use Rattle.model.specs.Lookup.{regionsOf};
 ghost use Rattle.laws.specs.Tests.{allRows};
 ghost use Rattle.model.specs.SoundTest.{eachProcess, freeProcess, emptyProcess, processFits};
 ghost use Rattle.sound_rows.specs.ProcessRow.{arenaFits, noSlot};
+use address::PAGE_SIZE;
+use address::USER_END;
+use model::FREE;
+use model::MAPPED_PAGES;
+use model::PROCESSES;
 use model::Process;
+use model::SLOTS;
 use rows::processes::process_at;
 use rows::slots::region_at;
 
@@ -17,7 +23,7 @@ pub fn processes_fit(words: &[u64]) -> bool
     ensures { λ r. ⌜ r ≡ eachProcess (machine (now (words .entry))) (processFits (machine (now (words .entry)))) ⌝ }
 {
     let mut i = 0;
-    while i < 8 {
+    while i < PROCESSES {
         let row = process_at(words, i);
         if !process_fits(words, i, row) {
             return false;
@@ -46,22 +52,22 @@ fn process_fits(words: &[u64], process: usize, row: Process) -> bool
 fn arena_fits(row: Process) -> bool
     ensures { λ r. ⌜ r ≡ arenaFits row ⌝ }
 {
-    if row.start.0 % 4096 != 0 {
+    if row.start.0 % PAGE_SIZE != 0 {
         return false;
     }
-    if row.size % 4096 != 0 {
+    if row.size % PAGE_SIZE != 0 {
         return false;
     }
-    if 0x8000_0000_0000 <= row.start.0 {
+    if USER_END <= row.start.0 {
         return false;
     }
-    if 0x8000_0000_0000 - row.start.0 < row.size {
+    if USER_END - row.start.0 < row.size {
         return false;
     }
-    if 64 < row.attached {
+    if (SLOTS as u64) < row.attached {
         return false;
     }
-    row.mapped <= 128
+    row.mapped <= MAPPED_PAGES as u64
 }
 
 // Whether a process's row is free and it has no region.
@@ -90,9 +96,9 @@ fn no_region(words: &[u64], process: usize) -> bool
     ensures { λ r. ⌜ r ≡ allRows noSlot 0 (regionsOf (machine (now (words .entry))) process) ⌝ }
 {
     let mut i = 0;
-    while i < 64 {
-        let region = region_at(words, process * 64 + i);
-        if region.kind != 0 {
+    while i < SLOTS {
+        let region = region_at(words, process * SLOTS + i);
+        if region.kind != FREE {
             return false;
         }
         i += 1;

@@ -6,6 +6,9 @@ ghost use Rattle.model.specs.Layout.{wordCount, machine};
 ghost use Rattle.laws.specs.Tests.{allRows};
 ghost use Rattle.model.specs.SoundTest.{freeFile};
 ghost use Rattle.sound_rows.specs.Sizes.{sizesFit, isLent, fileFitsIn};
+use model::FILES;
+use model::FRAME_BYTES;
+use model::FRAMES;
 use model::File;
 use rows::backings::frame_count;
 use rows::files::file_at;
@@ -17,14 +20,14 @@ pub fn sized(words: &[u64], frames: usize) -> bool
     ensures { λ r. ⌜ r ≡ sizesFit (machine (now (words .entry))) frames ⌝ }
 {
     let count = frame_count(words);
-    if 256 < count {
+    if (FRAMES as u64) < count {
         return false;
     }
     let files = file_count(words);
-    if 8 < files {
+    if (FILES as u64) < files {
         return false;
     }
-    frames == count as usize * 4096
+    frames == count as usize * FRAME_BYTES
 }
 
 // Whether every file's row fits the count of files and the lent bytes.
@@ -34,7 +37,7 @@ pub fn files_fit(words: &[u64], bytes: usize) -> bool
 {
     let count = file_count(words);
     let mut i = 0;
-    while i < 8 {
+    while i < FILES {
         let row = file_at(words, i);
         if !file_fits(count as usize, bytes, i, row) {
             return false;

@@ -8,9 +8,17 @@ ghost use Rattle.laws.specs.Tests.{allRows};
 ghost use Rattle.model.specs.SoundTest.{freeRegion, limitsb, regionFits};
 ghost use Rattle.sound_rows.specs.SlotRow.{placeFits, ownRights, sharedRights, rightsFit, filePart, noFilePart, contentFits, rangeFits};
 use address::CheckedFlags;
+use address::PAGE_SIZE;
 use address::PageTableFlags;
+use address::USER_END;
 use lookup::backed::backing_from;
+use model::COPY_ON_WRITE;
+use model::FILE_BACKED;
+use model::FREE;
+use model::MOST_PINS;
+use model::REGIONS;
 use model::Region;
+use model::SHARED;
 use rows::files::file_count;
 use rows::sizes::pages_for;
 use rows::slots::region_at;
@@ -21,7 +29,7 @@ pub fn regions_fit(words: &[u64]) -> bool
     ensures { λ r. ⌜ r ≡ allRows (λ i x. regionFits (machine (now (words .entry))) x) 0 (machine (now (words .entry)) .regions) ⌝ }
 {
     let mut i = 0;
-    while i < 512 {
+    while i < REGIONS {
         let row = region_at(words, i);
         if !region_fits(words, row) {
             return false;
@@ -36,7 +44,7 @@ fn region_fits(words: &[u64], region: Region) -> bool
     requires { ⌜ length (now words) ≡ wordCount ⌝ }
     ensures { λ r. ⌜ r ≡ regionFits (machine (now (words .entry))) region ⌝ }
 {
-    if region.kind == 0 {
+    if region.kind == FREE {
         return is_free(region);
     }
     limits_fit(words, region)
@@ -86,26 +94,26 @@ fn place_fits(region: Region) -> bool
     if 3 < region.kind {
         return false;
     }
-    if region.start.0 % 4096 != 0 {
+    if region.start.0 % PAGE_SIZE != 0 {
         return false;
     }
     if region.size < 1 {
         return false;
     }
-    if 0x8000_0000_0000 < region.start.0 {
+    if USER_END < region.start.0 {
         return false;
     }
-    if 0x8000_0000_0000 - region.start.0 < region.size {
+    if USER_END - region.start.0 < region.size {
         return false;
     }
-    region.pins <= 65535
+    region.pins <= MOST_PINS
 }
 
 // Whether flags, fork policy and per-thread mark fit the kind.
 fn rights_fit(region: Region) -> bool
     ensures { λ r. ⌜ r ≡ rightsFit region ⌝ }
 {
-    if region.kind == 3 {
+    if region.kind == SHARED {
         return shared_rights(region);
     }
     own_rights(region)
@@ -118,7 +126,7 @@ fn shared_rights(region: Region) -> bool
     if region.flags.0 != 0 {
         return false;
     }
-    if region.fork != 0 {
+    if region.fork != COPY_ON_WRITE {
         return false;
     }
     if region.per_thread != 0 {
@@ -155,7 +163,7 @@ fn content_fits(words: &[u64], region: Region) -> bool
     requires { ⌜ length (now words) ≡ wordCount ⌝ }
     ensures { λ r. ⌜ r ≡ contentFits (machine (now (words .entry))) region ⌝ }
 {
-    if region.kind == 2 {
+    if region.kind == FILE_BACKED {
         let files = file_count(words);
         return file_part(files, region);
     }

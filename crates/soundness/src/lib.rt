@@ -7,6 +7,7 @@ ghost use Rattle.model.specs.Layout.{wordCount, machine};
 ghost use Rattle.soundness.specs.SoundLent.{soundLent};
 ghost use Rattle.soundness.specs.Stages.{recordsFit, listsFit, framesFit};
 ghost use Rattle.sound_frames.specs.OnePage.{HoldersFit};
+use rows::WORD_COUNT;
 use sound_frames::backings::backings_fit;
 use sound_frames::holders::counted;
 use sound_frames::onepage::one_page;
@@ -77,7 +78,7 @@ fn frames_fit(words: &[u64]) -> bool
 pub fn is_sound(words: &[u64], frames: &[u8], files: &[u8]) -> bool
     ensures { λ r. ⌜ r ≡ soundLent (now (words .entry)) (now (frames .entry)) (now (files .entry)) ⌝ }
 {
-    if words.len() != 11844 {
+    if words.len() != WORD_COUNT {
         return false;
     }
     if !records_fit(words, frames.len(), files.len()) {

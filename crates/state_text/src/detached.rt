@@ -4,6 +4,8 @@ ghost use Prim.Native.Nat.{_<_};
 ghost use lib.ListN.{length};
 ghost use Rattle.model.specs.Layout.{wordCount};
 use lookup::attached::attached_count;
+use model::FREE;
+use model::SLOTS;
 use rows::slots::order_at;
 use rows::slots::region_at;
 
@@ -12,8 +14,8 @@ pub fn next_detached(words: &[u64], process: usize, start: u64) -> usize
     requires { ⌜ length (now words) ≡ wordCount ⌝ }
     requires { ⌜ process < 8 ⌝ }
 {
-    let mut found = 64;
-    let mut i = 64;
+    let mut found = SLOTS;
+    let mut i = SLOTS;
     // Downwards: of equal starts the lowest slot is seen last, and taken.
     while 0 < i {
         i -= 1;
@@ -28,8 +30,8 @@ fn nearer(words: &[u64], process: usize, start: u64, slot: usize, later: usize) 
     requires { ⌜ process < 8 ⌝ }
     requires { ⌜ slot < 64 ⌝ }
 {
-    let region = region_at(words, process * 64 + slot);
-    if region.kind == 0 {
+    let region = region_at(words, process * SLOTS + slot);
+    if region.kind == FREE {
         return later;
     }
     if region.start.0 < start {
@@ -38,10 +40,10 @@ fn nearer(words: &[u64], process: usize, start: u64, slot: usize, later: usize) 
     if is_attached(words, process, slot) {
         return later;
     }
-    if 64 <= later {
+    if SLOTS <= later {
         return slot;
     }
-    let other = region_at(words, process * 64 + later);
+    let other = region_at(words, process * SLOTS + later);
     if other.start.0 < region.start.0 {
         return later;
     }
@@ -56,7 +58,7 @@ fn is_attached(words: &[u64], process: usize, slot: usize) -> bool
     let n = attached_count(words, process);
     let mut i = 0;
     while i < n {
-        if order_at(words, process * 64 + i) == slot as u64 {
+        if order_at(words, process * SLOTS + i) == slot as u64 {
             return true;
         }
         i += 1;

@@ -1,13 +1,16 @@
 // The lines of the state, each put from a row's values.
 ghost use Prim.Native.Nat.{_+_, _≤_};
 ghost use lib.ListN.{length};
-use address::Page;
 use model::Backing;
+use model::COPY_ON_WRITE;
 use model::Entry;
+use model::FILE_BACKED;
 use model::Mapping;
+use model::PRIVATE;
 use model::Pool;
 use model::Process;
 use model::Region;
+use model::SHARED;
 use text::put;
 use text::put_decimal_word;
 use text::put_end;
@@ -82,10 +85,10 @@ fn put_kind(out: &mut [u8], at: usize, kind: u64) -> usize
     requires { ⌜ at + 8 ≤ length (now out) ⌝ }
     ensures { λ r. ⌜ r ≤ at + 8 ⌝ }
 {
-    if kind == 1 {
+    if kind == PRIVATE {
         return put(out, at, b" private");
     }
-    if kind == 2 {
+    if kind == FILE_BACKED {
         return put(out, at, b" file");
     }
     put(out, at, b" shared")
@@ -106,7 +109,7 @@ fn put_marks(out: &mut [u8], at: usize, region: Region) -> usize
     requires { ⌜ at + 31 ≤ length (now out) ⌝ }
     ensures { λ r. ⌜ r ≤ at + 31 ⌝ }
 {
-    if region.kind == 3 {
+    if region.kind == SHARED {
         return at;
     }
     let next = put_hex_word(out, at, region.flags.0);
@@ -118,7 +121,7 @@ fn put_fork(out: &mut [u8], at: usize, fork: u64) -> usize
     requires { ⌜ at + 5 ≤ length (now out) ⌝ }
     ensures { λ r. ⌜ r ≤ at + 5 ⌝ }
 {
-    if fork == 0 {
+    if fork == COPY_ON_WRITE {
         return put(out, at, b" cow");
     }
     put(out, at, b" copy")
@@ -139,7 +142,7 @@ fn put_part(out: &mut [u8], at: usize, region: Region) -> usize
     requires { ⌜ at + 64 ≤ length (now out) ⌝ }
     ensures { λ r. ⌜ r ≤ at + 64 ⌝ }
 {
-    if region.kind != 2 {
+    if region.kind != FILE_BACKED {
         return at;
     }
     let next = put_with_decimal(out, at, b" file ", region.file);
@@ -167,7 +170,7 @@ pub fn put_entry(out: &mut [u8], at: usize, process: u64, entry: Entry, holders:
     ensures { λ r. ⌜ r ≤ at + 128 ⌝ }
 {
     let next = put_with_decimal(out, at, b"page ", process);
-    let next = put_hex_word(out, next, page_start(entry.page));
+    let next = put_hex_word(out, next, entry.page.start_address().0);
     let next = put_decimal_word(out, next, entry.frame.0);
     let next = put_decimal_word(out, next, holders);
     put_end(out, next)
@@ -179,7 +182,7 @@ pub fn put_mapping(out: &mut [u8], at: usize, process: u64, mapping: Mapping) ->
     ensures { λ r. ⌜ r ≤ at + 128 ⌝ }
 {
     let next = put_with_decimal(out, at, b"mapped ", process);
-    let next = put_hex_word(out, next, page_start(mapping.page));
+    let next = put_hex_word(out, next, mapping.page.start_address().0);
     let next = put_decimal_word(out, next, mapping.frame.0);
     let next = put_hex_word(out, next, mapping.flags.0);
     put_end(out, next)
@@ -193,9 +196,4 @@ pub fn put_sum(out: &mut [u8], at: usize, frame: u64, sum: u64) -> usize
     let next = put_with_decimal(out, at, b"frame ", frame);
     let next = put_decimal_word(out, next, sum);
     put_end(out, next)
-}
-
-// A page's first address, whatever the page's number.
-fn page_start(page: Page) -> u64 {
-    page.0 % 0x10_0000_0000_0000 * 4096
 }

@@ -15,7 +15,10 @@ use address::Page;
 use lookup::attached::attached_count;
 use lookup::backed::backing_from;
 use lookup::backed::next_entry;
+use model::ENTRIES;
 use model::Found;
+use model::MAPPED_PAGES;
+use model::SLOTS;
 use rows::pages::entry_at;
 use rows::pages::mapping_at;
 use rows::processes::process_at;
@@ -87,7 +90,7 @@ fn put_mapped_place(
     if row.mapped <= s as u64 {
         return passed(at, cursor);
     }
-    let mapping = mapping_at(words, process * 128 + s);
+    let mapping = mapping_at(words, process * MAPPED_PAGES + s);
     let next = put_mapping(out, at, process as u64, mapping);
     passed(next, cursor)
 }
@@ -110,14 +113,14 @@ fn put_region_place(
     if 0 < cursor.shown {
         return put_next_entry(out, at, words, process, cursor);
     }
-    if 64 <= k {
+    if SLOTS <= k {
         let slot = next_detached(words, process, cursor.start);
         return put_slot(out, at, words, process, slot, false, cursor);
     }
     if attached_count(words, process) <= k {
         return passed(at, cursor);
     }
-    let slot = order_at(words, process * 64 + k) as usize;
+    let slot = order_at(words, process * SLOTS + k) as usize;
     put_slot(out, at, words, process, slot, true, cursor)
 }
 
@@ -138,10 +141,10 @@ fn put_slot(
     requires { ⌜ cursor .shown ≡ 0 ⌝ }
     ensures { λ r. ⌜ Shows at cursor r ⌝ }
 {
-    if 64 <= slot {
+    if SLOTS <= slot {
         return passed(at, cursor);
     }
-    let row = process * 64 + slot;
+    let row = process * SLOTS + slot;
     let region = region_at(words, row);
     let range = backing_from(words, region.range);
     let next = put_region(out, at, process as u64, region, attached, range);
@@ -167,7 +170,7 @@ fn put_next_entry(out: &mut [u8], at: usize, words: &[u64], process: usize, curs
     ensures { λ r. ⌜ Shows at cursor r ⌝ }
 {
     let i = entry_from(words, cursor.row, cursor.page);
-    if 512 <= i {
+    if ENTRIES <= i {
         return passed(at, cursor);
     }
     if 513 <= cursor.shown {
@@ -186,11 +189,11 @@ fn put_next_entry(out: &mut [u8], at: usize, words: &[u64], process: usize, curs
 fn entry_from(words: &[u64], row: usize, page: u64) -> usize
     requires { ⌜ length (now words) ≡ wordCount ⌝ }
 {
-    if 512 <= row {
-        return 512;
+    if ENTRIES <= row {
+        return ENTRIES;
     }
     let Found::At(i) = next_entry(words, row as u64, Page(page)) else {
-        return 512;
+        return ENTRIES;
     };
     i
 }

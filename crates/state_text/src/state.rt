@@ -13,6 +13,8 @@ use crate::places::passed;
 use crate::places::put_place;
 use crate::sums::is_in_use;
 use crate::sums::sum_of;
+use model::FRAME_BYTES;
+use rows::WORD_COUNT;
 use rows::backings::frame_count;
 use rows::backings::pool;
 use text::put;
@@ -24,7 +26,7 @@ pub fn put_state(out: &mut [u8], at: usize, words: &[u64], frames: &[u8], cursor
     ensures { λ r. ⌜ r .at ≤ at + 4096 ⌝ }
     ensures { λ r. ⌜ left (r .cursor) < left cursor ⌝ }
 {
-    if words.len() != 11844 {
+    if words.len() != WORD_COUNT {
         return ended(at, cursor);
     }
     if 2313 <= cursor.place {
@@ -71,8 +73,8 @@ fn put_frame(
     if !is_in_use(words, frame) {
         return passed(at, cursor);
     }
-    let from = frame * 4096;
-    let to = from + 4096;
+    let from = frame * FRAME_BYTES;
+    let to = from + FRAME_BYTES;
     if frames.len() < to {
         return passed(at, cursor);
     }

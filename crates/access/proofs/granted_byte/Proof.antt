@@ -1,9 +1,9 @@
--- `granted_byte`: one law for each test that decides; a mapped page's frame is one of at most 256.
+-- `granted_byte`: one law for each test that decides.
 use mathlib.Core.Path.{sym, _∙_}
 use native.Mathlib.Omega.{arith}
 use borrow.Author.Tests.{not-true, not-false}
 use Rattle.lookup.specs.FirstOfLaws.{open-small}
-use Rattle.access.specs.AccessLaws.{access-closed, access-address, access-unmapped, access-disallowed, access-allowed, frame-small}
+use Rattle.access.specs.AccessLaws.{access-closed, access-address, access-unmapped, access-disallowed, access-allowed}
 use borrow.Author.Needs.{needs}
 use Rattle.access.proofs.granted_byte.Statement.{statement}
 use Rattle.access.proofs.granted_byte.Tie as tie
@@ -41,14 +41,14 @@ is-allowed-requires c κs = search needs
 returns-4 : tie.Need-returns-4
 returns-4 c = access-disallowed _ _ _ _ (sym (c .before .before .before .before .before .before .before .before .before .before .is-open .ensures) ∙ not-false _ (c .before .before .before .before .before .before .before .before .before .if1 .left)) (sym (c .before .before .before .before .before .before .before .before .is-user .ensures) ∙ not-false _ (c .before .before .before .before .before .before .before .if2 .left)) (c .before .before .before .before .before .before .before .before .before .before .before .before .pre .1) _ (c .before .before .before .before .before .before .containing-address .ensures) _ (c .before .before .before .before .before .translate .ensures) _ (c .before .before .before .row .given .1) _ (c .before .is-allowed .ensures) (not-true _ (c .if3 .taken))
 
-mul-t15 : tie.Need-mul-t15
-mul-t15 c = let small = frame-small _ _ _ (c .before .before .before .before .before .before .before .before .before .before .before .before .args .write) (sym (c .before .before .before .before .before .before .before .before .before .before .is-open .ensures) ∙ not-false _ (c .before .before .before .before .before .before .before .before .before .if1 .left)) (sym (c .before .before .before .before .before .before .before .before .is-user .ensures) ∙ not-false _ (c .before .before .before .before .before .before .before .if2 .left)) (c .before .before .before .before .before .before .before .before .before .before .before .before .pre .1) _ (c .before .before .before .before .before .before .containing-address .ensures) _ (c .before .before .before .before .before .translate .ensures) _ (c .before .before .before .row .given .1) in omega arith
+page-offset-requires : tie.Need-page-offset-requires
+page-offset-requires c κs = search needs
 
-add-t18 : tie.Need-add-t18
-add-t18 c = let small = frame-small _ _ _ (c .before .before .before .before .before .before .before .before .before .before .before .before .args .write) (sym (c .before .before .before .before .before .before .before .before .before .before .is-open .ensures) ∙ not-false _ (c .before .before .before .before .before .before .before .before .before .if1 .left)) (sym (c .before .before .before .before .before .before .before .before .is-user .ensures) ∙ not-false _ (c .before .before .before .before .before .before .before .if2 .left)) (c .before .before .before .before .before .before .before .before .before .before .before .before .pre .1) _ (c .before .before .before .before .before .before .containing-address .ensures) _ (c .before .before .before .before .before .translate .ensures) _ (c .before .before .before .row .given .1) in omega arith
+address-at-requires : tie.Need-address-at-requires
+address-at-requires c κs = let inside = c .page-offset .ensures in omega arith
 
 returns-5 : tie.Need-returns-5
-returns-5 c = access-allowed _ _ _ _ (sym (c .before .before .before .before .before .before .before .before .before .before .is-open .ensures) ∙ not-false _ (c .before .before .before .before .before .before .before .before .before .if1 .left)) (sym (c .before .before .before .before .before .before .before .before .is-user .ensures) ∙ not-false _ (c .before .before .before .before .before .before .before .if2 .left)) (c .before .before .before .before .before .before .before .before .before .before .before .before .pre .1) _ (c .before .before .before .before .before .before .containing-address .ensures) _ (c .before .before .before .before .before .translate .ensures) _ (c .before .before .before .row .given .1) _ (c .before .is-allowed .ensures) (not-false _ (c .if3 .left))
+returns-5 c = access-allowed _ _ _ _ (sym (c .before .before .before .before .before .before .before .before .before .before .before .before .before .is-open .ensures) ∙ not-false _ (c .before .before .before .before .before .before .before .before .before .before .before .before .if1 .left)) (sym (c .before .before .before .before .before .before .before .before .before .before .before .is-user .ensures) ∙ not-false _ (c .before .before .before .before .before .before .before .before .before .before .if2 .left)) (c .before .before .before .before .before .before .before .before .before .before .before .before .before .before .before .pre .1) _ (c .before .before .before .before .before .before .before .before .before .containing-address .ensures) _ (c .before .before .before .before .before .before .before .before .translate .ensures) _ (c .before .before .before .before .before .before .row .given .1) _ (c .before .before .before .before .is-allowed .ensures) (not-false _ (c .before .before .before .if3 .left)) _ (c .before .page-offset .ensures) _ (c .address-at .ensures)
 
 pub granted-byte-spec : {M : Type 1} → statement M
 granted-byte-spec =
@@ -65,6 +65,6 @@ granted-byte-spec =
     returns-3
     is-allowed-requires
     returns-4
-    mul-t15
-    add-t18
+    page-offset-requires
+    address-at-requires
     returns-5)

@@ -8,14 +8,14 @@ use Rattle.frames.proofs.copy.Tie as tie
 slice-aggregate-put-bytes : tie.Need-slice-aggregate-put-bytes
 slice-aggregate-put-bytes c = search needs
 
-mul-put-bytes : tie.Need-mul-put-bytes
-mul-put-bytes c = search needs
+first-byte-requires : tie.Need-first-byte-requires
+first-byte-requires c κs = search needs
 
 put-bytes-requires : tie.Need-put-bytes-requires
 put-bytes-requires c κs = search needs
 
-mul-put-bytes-2 : tie.Need-mul-put-bytes-2
-mul-put-bytes-2 c = search needs
+first-byte-requires-2 : tie.Need-first-byte-requires-2
+first-byte-requires-2 c κs = search needs
 
 slice-aggregate-put-bytes-2 : tie.Need-slice-aggregate-put-bytes-2
 slice-aggregate-put-bytes-2 c = search needs
@@ -28,18 +28,19 @@ same-length c = search needs
 
 returns : tie.Need-returns
 returns c =
-    let at-start = c .before .before .before .before .before .before .before .before .before .before in
-    copy-is (at-start .args .frames .now) (replicate 4096 0) _ _ (at-start .args .from) (at-start .args .to) (at-start .pre .0)
-    (c .before .before .before .before .before .before .put-bytes .ensures) (c .before .before .put-bytes2 .ensures)
+    let at-start = c .before .before .before .before .before .before .before .before .before .before .before .before in
+    copy-is (at-start .args .frames .now) (replicate 4096 0) _ _ (at-start .args .from .0) (at-start .args .to .0) _ _
+    (c .before .before .before .before .before .before .before .before .first-byte .ensures) (c .before .before .before .before .first-byte2 .ensures) (at-start .pre .0)
+    (c .before .before .before .before .before .before .before .put-bytes .ensures) (c .before .before .put-bytes2 .ensures)
 
 pub copy-spec : {M : Type 1} → statement M
 copy-spec =
     tie.close
     (tie.spec
     slice-aggregate-put-bytes
-    mul-put-bytes
+    first-byte-requires
     put-bytes-requires
-    mul-put-bytes-2
+    first-byte-requires-2
     slice-aggregate-put-bytes-2
     put-bytes-requires-2
     same-length

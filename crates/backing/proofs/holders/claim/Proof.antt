@@ -24,7 +24,7 @@ same-length : tie.Need-same-length
 same-length c = search needs
 
 returns : tie.Need-returns
-returns c = claim-left (machine (c .before .before .before .before .before .before .before .before .before .before .before .before .before .before .args .words .now)) (c .before .before .before .before .before .before .before .before .before .before .before .before .before .before .args .frame) (c .before .before .before .before .before .before .before .before .before .before .before .before .before .before .args .count) _ (c .before .before .before .before .before .before .before .before .before .before .before .pool .ensures) _ (c .before .before .before .before .before .before .before .before .before .put-backing .ensures) _ (c .before .before .before .before .before .lowest-free .ensures) _ (c .before .before .before .taken .ensures) _ (c .before .before .put-pool .ensures)
+returns c = claim-left (machine (c .before .before .before .before .before .before .before .before .before .before .before .before .before .before .args .words .now)) (c .before .before .before .before .before .before .before .before .before .before .before .before .before .before .args .frame .0) (c .before .before .before .before .before .before .before .before .before .before .before .before .before .before .args .count) _ (c .before .before .before .before .before .before .before .before .before .before .before .pool .ensures) _ (c .before .before .before .before .before .before .before .before .before .put-backing .ensures) _ (c .before .before .before .before .before .lowest-free .ensures) _ (c .before .before .before .taken .ensures) _ (c .before .before .put-pool .ensures)
 
 pub claim-spec : {M : Type 1} → statement M
 claim-spec =

@@ -18,7 +18,7 @@ same-length : tie.Need-same-length
 same-length c = search needs
 
 returns : tie.Need-returns
-returns c = hold-left (machine (c .before .before .before .before .before .before .before .before .args .words .now)) (c .before .before .before .before .before .before .before .before .args .frame) _ (c .before .before .before .before .before .backing-at .ensures) _ (c .before .before .before .wrapping-add-u64 .ensures) _ (c .before .before .put-backing .ensures)
+returns c = hold-left (machine (c .before .before .before .before .before .before .before .before .args .words .now)) (c .before .before .before .before .before .before .before .before .args .frame .0) _ (c .before .before .before .before .before .backing-at .ensures) _ (c .before .before .before .wrapping-add-u64 .ensures) _ (c .before .before .put-backing .ensures)
 
 pub hold-spec : {M : Type 1} → statement M
 hold-spec =

@@ -9,8 +9,8 @@ use Rattle.backing.proofs.holders.release.Tie as tie
 backing-at-requires : tie.Need-backing-at-requires
 backing-at-requires c κs = search needs
 
-sub-t11 : tie.Need-sub-t11
-sub-t11 c = search needs
+sub-t13 : tie.Need-sub-t13
+sub-t13 c = search needs
 
 put-backing-requires : tie.Need-put-backing-requires
 put-backing-requires c κs = search needs
@@ -19,7 +19,7 @@ same-length : tie.Need-same-length
 same-length c = search needs
 
 returns : tie.Need-returns
-returns c = fewer-left (machine (c .before .before .before .before .before .before .before .before .before .before .args .words .now)) (c .before .before .before .before .before .before .before .before .before .before .args .frame) _ (c .before .before .before .before .before .before .before .backing-at .ensures) (omega arith) _ (c .before .before .put-backing .ensures)
+returns c = fewer-left (machine (c .before .before .before .before .before .before .before .before .before .before .args .words .now)) (c .before .before .before .before .before .before .before .before .before .before .args .frame .0) _ (c .before .before .before .before .before .before .before .backing-at .ensures) (omega arith) _ (c .before .before .put-backing .ensures)
 
 pool-requires : tie.Need-pool-requires
 pool-requires c κs = search needs
@@ -37,14 +37,14 @@ same-length-2 : tie.Need-same-length-2
 same-length-2 c = search needs
 
 returns-2 : tie.Need-returns-2
-returns-2 c = freed-left (machine (c .before .before .before .before .before .before .before .before .before .before .before .before .before .before .before .before .args .words .now)) (c .before .before .before .before .before .before .before .before .before .before .before .before .before .before .before .before .args .frame) _ (c .before .before .before .before .before .before .before .before .before .before .before .before .before .backing-at .ensures) (omega arith) _ (c .before .before .before .before .before .before .before .before .before .pool .ensures) _ (c .before .before .before .before .before .before .before .put-backing2 .ensures) _ (c .before .before .before .given-back .ensures) _ (c .before .before .put-pool .ensures)
+returns-2 c = freed-left (machine (c .before .before .before .before .before .before .before .before .before .before .before .before .before .before .before .before .args .words .now)) (c .before .before .before .before .before .before .before .before .before .before .before .before .before .before .before .before .args .frame .0) _ (c .before .before .before .before .before .before .before .before .before .before .before .before .before .backing-at .ensures) (omega arith) _ (c .before .before .before .before .before .before .before .before .before .pool .ensures) _ (c .before .before .before .before .before .before .before .put-backing2 .ensures) _ (c .before .before .before .given-back .ensures) _ (c .before .before .put-pool .ensures)
 
 pub release-spec : {M : Type 1} → statement M
 release-spec =
     tie.close
     (tie.spec
     backing-at-requires
-    sub-t11
+    sub-t13
     put-backing-requires
     same-length
     returns

@@ -18,13 +18,17 @@ same-length : tie.Need-same-length
 same-length c = search needs
 
 returns : tie.Need-returns
-returns c = next-taken (machine (c .before .before .before .before .before .before .before .before .before .before .args .words .now)) _ (c .before .before .before .before .before .before .before .pool .ensures) _ (c .before .before .before .before .before .frame-rows .ensures .0) (c .before .before .before .before .if1 .taken) _ (c .before .before .claim .ensures)
+returns c =
+    let at-start = c .before .before .before .before .before .before .before .before .before .before .before .before in
+    next-taken (machine (at-start .args .words .now)) _ (c .before .before .before .before .before .before .before .before .before .pool .ensures) _ (c .before .before .before .before .before .before .frame-rows .ensures .0) (c .before .before .before .before .if1 .taken) _ (c .before .before .claim .ensures)
 
 same-length-2 : tie.Need-same-length-2
 same-length-2 c = search needs
 
 returns-2 : tie.Need-returns-2
-returns-2 c = none-taken (machine (c .before .before .before .before .before .before .args .words .now)) _ (c .before .before .before .pool .ensures) _ (c .before .frame-rows .ensures .0) (c .if1 .left)
+returns-2 c =
+    let at-start = c .before .before .before .before .before .before .before .before in
+    none-taken (machine (at-start .args .words .now)) _ (c .before .before .before .before .before .pool .ensures) _ (c .before .before .frame-rows .ensures .0) (c .if1 .left)
 
 pub take-frame-spec : {M : Type 1} → statement M
 take-frame-spec =

@@ -32,7 +32,7 @@ same-length-3 : tie.Need-same-length-3
 same-length-3 c = search needs
 
 returns-2 : tie.Need-returns-2
-returns-2 c = let a = c .before .before .before .before .before .before .before .before .before .before .before .before .before .before .args in create-made (a .words .now) (a .frames .now) (a .process) (a .place) (a .eager) (a .region) _ (c .before .before .before .before .before .before .before .before .before .before .plan-for .ensures) _ (c .before .before .before .before .before .before .before .before .way .given .1) _ _ (c .before .before .before .before .make .ensures)
+returns-2 c = let a = c .before .before .before .before .before .before .before .before .before .before .before .before .before .before .before .args in create-made (a .words .now) (a .frames .now) (a .process) (a .place) (a .eager) (a .region) _ (c .before .before .before .before .before .before .before .before .before .before .before .plan-for .ensures) _ (c .before .before .before .before .before .before .before .before .before .way .given .1) _ _ (c .before .before .before .before .before .make .ensures)
 
 pub create-spec : {M : Type 1} → statement M
 create-spec =

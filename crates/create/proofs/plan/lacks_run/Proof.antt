@@ -1,4 +1,6 @@
 -- `lacks_run`: only a run that is needed and not there is missed.
+use mathlib.Core.Path.{ap}
+use Rattle.backing.specs.BackingSteps.{foundFrame}
 use Rattle.create.specs.PlansLaws.{lacks-none, lacks-not}
 use borrow.Author.Needs.{needs}
 use Rattle.create.proofs.plan.lacks_run.Statement.{statement}
@@ -14,10 +16,10 @@ is-run-needed-requires : tie.Need-is-run-needed-requires
 is-run-needed-requires c κs = search needs
 
 returns : tie.Need-returns
-returns c = let a = c .before .before .before .args in lacks-none (a .eager) (a .region) (a .run) (c .before .enum-told2 .given .1) _ (c .is-run-needed .ensures)
+returns c = let a = c .before .before .before .args in lacks-none (a .eager) (a .region) (foundFrame (a .run)) (ap foundFrame (c .before .enum-told2 .given .1)) _ (c .is-run-needed .ensures)
 
 returns-2 : tie.Need-returns-2
-returns-2 c = let a = c .before .before .args in lacks-not (a .eager) (a .region) (a .run) _ (c .enum-told .given .1)
+returns-2 c = let a = c .before .before .args in lacks-not (a .eager) (a .region) (foundFrame (a .run)) _ (ap foundFrame (c .enum-told .given .1))
 
 pub lacks-run-spec : {M : Type 1} → statement M
 lacks-run-spec =

@@ -15,6 +15,17 @@ row-for-requires c κs = search needs
 enum-known-at : tie.Need-enum-known-at
 enum-known-at c = search needs
 
+enum-told : tie.Need-enum-told
+enum-told c = search needs
+
+same-length : tie.Need-same-length
+same-length c = search needs
+
+returns : tie.Need-returns
+returns c =
+    let given = c .before .before .before .before .before .args in
+    remap-no-row (machine (given .words .now)) (given .process) (given .page .0) (given .flags .0) (sym (c .enum-told .given .1) ∙ c .before .before .row-for .ensures)
+
 row-at-requires : tie.Need-row-at-requires
 row-at-requires c κs =
     let given = c .before .before .before .before .before .before .before .args in
@@ -33,24 +44,13 @@ put-row-requires c κs =
     let most = mapped-most (machine w) p (c .before .before .before .before .before .before .before .before .before .pre .1) (mapped-rows w) in
     search needs
 
-enum-told : tie.Need-enum-told
-enum-told c = search needs
-
-same-length : tie.Need-same-length
-same-length c = search needs
-
-returns : tie.Need-returns
-returns c =
-    let given = c .before .before .before .before .before .before .before .before .before .before .before .before .args in
-    remap-found (machine (given .words .now)) (given .process) (given .page .0) (given .flags .0) (c .before .before .before .before .before .before .before .at .given .0 .0) _ _ (sym (c .before .before .before .before .before .before .before .at .given .1) ∙ c .before .before .before .before .before .before .before .before .before .row-for .ensures) (c .before .before .before .before .row-at .ensures) (c .before .before .put-row .ensures)
-
 same-length-2 : tie.Need-same-length-2
 same-length-2 c = search needs
 
 returns-2 : tie.Need-returns-2
 returns-2 c =
-    let given = c .before .before .before .before .before .args in
-    remap-no-row (machine (given .words .now)) (given .process) (given .page .0) (given .flags .0) (sym (c .enum-told .given .1) ∙ c .before .before .row-for .ensures)
+    let given = c .before .before .before .before .before .before .before .before .before .before .before .before .args in
+    remap-found (machine (given .words .now)) (given .process) (given .page .0) (given .flags .0) (c .before .before .before .before .before .before .before .at .given .0 .0) _ _ (sym (c .before .before .before .before .before .before .before .at .given .1) ∙ c .before .before .before .before .before .before .before .before .before .row-for .ensures) (c .before .before .before .before .row-at .ensures) (c .before .before .put-row .ensures)
 
 pub remap-spec : {M : Type 1} → statement M
 remap-spec =
@@ -58,10 +58,10 @@ remap-spec =
     (tie.spec
     row-for-requires
     enum-known-at
-    row-at-requires
-    put-row-requires
     enum-told
     same-length
     returns
+    row-at-requires
+    put-row-requires
     same-length-2
     returns-2)

@@ -8,11 +8,11 @@ use Rattle.paging.proofs.mapper.unmap_from.Tie as tie
 mapped-count-requires : tie.Need-mapped-count-requires
 mapped-count-requires c κs = search needs
 
-first-page-requires : tie.Need-first-page-requires
-first-page-requires c κs = search needs
+starting-from-requires : tie.Need-starting-from-requires
+starting-from-requires c κs = search needs
 
-first-page-requires-2 : tie.Need-first-page-requires-2
-first-page-requires-2 c κs = search needs
+starting-from-requires-2 : tie.Need-starting-from-requires-2
+starting-from-requires-2 c κs = search needs
 
 place-requires : tie.Need-place-requires
 place-requires c κs = search needs
@@ -29,7 +29,7 @@ same-length c = search needs
 returns : tie.Need-returns
 returns c =
     let given = c .before .before .before .before .before .before .before .before .before .before .before .before .before .before .args in
-    some-taken (machine (given .words .now)) (given .process) _ (c .before .before .before .before .before .before .before .before .before .before .before .mapped-count .ensures .0) (given .region) _ _ _ _ (c .before .before .before .before .before .before .before .before .before .before .first-page .ensures) (c .before .before .before .before .before .before .before .before .before .first-page2 .ensures) (c .before .before .before .before .before .before .before .place .ensures .0) (c .before .before .before .before .before .place2 .ensures .0) _ (c .before .before .before .before .if1 .taken) (c .before .before .take-out .ensures)
+    some-taken (machine (given .words .now)) (given .process) _ (c .before .before .before .before .before .before .before .before .before .before .before .mapped-count .ensures .0) (given .region) _ _ _ _ (c .before .before .before .before .before .before .before .before .before .before .starting-from .ensures) (c .before .before .before .before .before .before .before .before .before .starting-from2 .ensures) (c .before .before .before .before .before .before .before .place .ensures .0) (c .before .before .before .before .before .place2 .ensures .0) _ (c .before .before .before .before .if1 .taken) (c .before .before .take-out .ensures)
 
 same-length-2 : tie.Need-same-length-2
 same-length-2 c = search needs
@@ -37,15 +37,15 @@ same-length-2 c = search needs
 returns-2 : tie.Need-returns-2
 returns-2 c =
     let given = c .before .before .before .before .before .before .before .before .before .before .args in
-    none-taken (machine (given .words .now)) (given .process) _ (c .before .before .before .before .before .before .before .mapped-count .ensures .0) (given .region) _ _ _ _ (c .before .before .before .before .before .before .first-page .ensures) (c .before .before .before .before .before .first-page2 .ensures) (c .before .before .before .place .ensures .0) (c .before .place2 .ensures .0) (c .if1 .left)
+    none-taken (machine (given .words .now)) (given .process) _ (c .before .before .before .before .before .before .before .mapped-count .ensures .0) (given .region) _ _ _ _ (c .before .before .before .before .before .before .starting-from .ensures) (c .before .before .before .before .before .starting-from2 .ensures) (c .before .before .before .place .ensures .0) (c .before .place2 .ensures .0) (c .if1 .left)
 
 pub unmap-from-spec : {M : Type 1} → statement M
 unmap-from-spec =
     tie.close
     (tie.spec
     mapped-count-requires
-    first-page-requires
-    first-page-requires-2
+    starting-from-requires
+    starting-from-requires-2
     place-requires
     place-requires-2
     take-out-requires

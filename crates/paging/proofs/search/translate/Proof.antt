@@ -14,6 +14,14 @@ row-for-requires c κs = search needs
 enum-known-at : tie.Need-enum-known-at
 enum-known-at c = search needs
 
+enum-told : tie.Need-enum-told
+enum-told c = search needs
+
+returns : tie.Need-returns
+returns c =
+    let given = c .before .before .before .before .args in
+    translate-missing (mappedOf (machine (given .words .now)) (given .process)) (given .page .0) (sym (c .enum-told .given .1) ∙ c .before .before .row-for .ensures)
+
 row-at-requires : tie.Need-row-at-requires
 row-at-requires c κs =
     let given = c .before .before .before .before .before .args in
@@ -23,11 +31,8 @@ row-at-requires c κs =
     let most = mapped-most (machine w) p (c .before .before .before .before .before .pre .1) (mapped-rows w) in
     search needs
 
-enum-told : tie.Need-enum-told
-enum-told c = search needs
-
-returns : tie.Need-returns
-returns c =
+returns-2 : tie.Need-returns-2
+returns-2 c =
     let given = c .before .before .before .before .before .before .args in
     let m = machine (given .words .now) in
     let p = given .process in
@@ -35,11 +40,6 @@ returns c =
     let found = sym (c .before .before .at .given .1) ∙ c .before .before .before .before .row-for .ensures in
     translate-found (mappedOf m p) (given .page .0) at found _ (c .row-at .ensures ∙ mapped-row m p at (row-inside (mappedOf m p) (given .page .0) at found))
 
-returns-2 : tie.Need-returns-2
-returns-2 c =
-    let given = c .before .before .before .before .args in
-    translate-missing (mappedOf (machine (given .words .now)) (given .process)) (given .page .0) (sym (c .enum-told .given .1) ∙ c .before .before .row-for .ensures)
-
 pub translate-spec : {M : Type 1} → statement M
 translate-spec =
-    tie.close (tie.spec row-for-requires enum-known-at row-at-requires enum-told returns returns-2)
+    tie.close (tie.spec row-for-requires enum-known-at enum-told returns row-at-requires returns-2)

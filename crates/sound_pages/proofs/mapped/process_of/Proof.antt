@@ -13,8 +13,11 @@ returns-2 c = owner-past (c .before .before .before .before .args .entry) (c .if
 sub-result : tie.Need-sub-result
 sub-result c = search needs
 
+div-result : tie.Need-div-result
+div-result c = search needs
+
 returns-3 : tie.Need-returns-3
 returns-3 c = owner-some (c .before .before .before .before .before .args .entry) (c .before .before .before .if1 .left) (c .before .if2 .left)
 
 pub process-of-spec : {M : Type 1} → statement M
-process-of-spec = tie.close (tie.spec returns returns-2 sub-result returns-3)
+process-of-spec = tie.close (tie.spec returns returns-2 sub-result div-result returns-3)
