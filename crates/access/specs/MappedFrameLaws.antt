@@ -1,33 +1,31 @@
 -- A page that is mapped on a sound machine is mapped to one of its frames.
 use mathlib.Core.Path.{_≡_, refl, ap, sym, subst, _∙_}
-use mathlib.Core.Logic.{_≢_}
-use mathlib.Core.Bool.{Bool, true, false, _&&_, cond, false≢true}
+use mathlib.Core.Bool.{Bool, true, false, _&&_, cond}
 use mathlib.Core.List.{List, [], _∷_}
 use Prim.Native.Nat.{ℕ, zero, suc, _+_, _<_, zero-le, suc-le-suc}
 use native.Mathlib.Omega.{arith}
 use lib.ListN.{length, getD, List·getD-eq-default}
 use lib.Dec.{eqb, ltb}
 use borrow.Author.Tests.{ltb-true, ltb-false, eqb-true}
+use Rattle.laws.specs.BoolLaws.{both-true}
 use Rattle.model.specs.declared.Mapping.{Mapping}
 use Rattle.model.specs.declared.Region.{Region}
 use Rattle.model.specs.declared.Backing.{Backing}
 use Rattle.model.specs.declared.Backed.the-variants.{ByRange, Unbacked}
 use Rattle.model.specs.declared.Found.{Found}
 use Rattle.model.specs.declared.Found.the-variants.{At, Nothing}
-use Rattle.model.specs.declared.Translated.the-variants.{Mapped, NotMapped}
+use Rattle.model.specs.declared.Translated.the-variants.{Mapped}
 use Rattle.model.specs.Machine.{Machine, State, mappedOf, regionAt, rowOf, noMapping, noEntry, noBacking}
 use Rattle.model.specs.Lookup.{isRanged}
 use Rattle.model.specs.LookupLaws.{never-found, same-slot}
 use Rattle.model.specs.Paging.{translate}
 use Rattle.model.specs.Backing.{backingAt, backing, entryFor}
 use Rattle.model.specs.Sound.{Sound, Homed, frameBy}
+use Rattle.model.specs.MappedBelowLaws.{never-mapped}
 use Rattle.lookup.specs.Lookups.{entryOf}
 use Rattle.lookup.specs.Backed.{byEntry, byRange, elseBy, pagesPast}
 use Rattle.lookup.specs.BackedLaws.{backing-by}
-use Rattle.lookup.specs.FoundRowLaws.{first-found}
-
-never-mapped : {x : Mapping} → NotMapped ≡ Mapped x → ⊥
-never-mapped {x} e = let z : _≡_ {A = ℕ} 0 1 = cc in omega arith
+use Rattle.model.specs.FoundRowLaws.{first-found}
 
 same-mapping : {x y : Mapping} → Mapped x ≡ Mapped y → x ≡ y
 same-mapping {x} {y} e = cc
@@ -41,10 +39,6 @@ of-mapped P (y ∷ l) page x h e = go (eqb (y .page .0) page) e (of-mapped P l p
     go : (b : Bool) → cond b (Mapped y) (translate l page) ≡ Mapped x → (translate l page ≡ Mapped x → P x) → P x
     go true p later = subst P (same-mapping p) (h zero (suc-le-suc zero-le))
     go false p later = later p
-
-both : (a b : Bool) → (a && b) ≡ true → (a ≡ true) × (b ≡ true)
-both true b e = (refl, e)
-both false b e = absurd (false≢true e)
 
 module _ (s : State) (sound : Sound s) where
   abbrev m : Machine
@@ -62,7 +56,7 @@ module _ (s : State) (sound : Sound s) where
   unfolding entryFor
   by-entry row page i e =
       let found = first-found (entryOf (row + 1) page) (m .entries) i noEntry e in
-      let owner = eqb-true (getD (m .entries) i noEntry .owner) (row + 1) (both _ _ (found .1) .0) in
+      let owner = eqb-true (getD (m .entries) i noEntry .owner) (row + 1) (both-true _ _ (found .1) .0) in
       let one = sound .r6 .entries i (found .0) .used (λ z. omega arith) .frame in
       let inside = backed-inside (getD (m .entries) i noEntry .frame .0) 0 (omega arith) in
       omega arith
@@ -72,7 +66,7 @@ module _ (s : State) (sound : Sound s) where
     where
       go : (b : Bool) → (isRanged r && ltb (pagesPast r page) (backingAt m (r .range .0) .len)) ≡ b → frameBy (cond b (ByRange (record { 0 = r .range .0 + pagesPast r page }) (backingAt m (r .range .0) .holders)) Unbacked) ≡ At f → f < m .frameCount
       go true t q =
-          let inside = backed-inside (r .range .0) (pagesPast r page) (ltb-true (pagesPast r page) (backingAt m (r .range .0) .len) (both (isRanged r) (ltb (pagesPast r page) (backingAt m (r .range .0) .len)) t .1)) in
+          let inside = backed-inside (r .range .0) (pagesPast r page) (ltb-true (pagesPast r page) (backingAt m (r .range .0) .len) (both-true (isRanged r) (ltb (pagesPast r page) (backingAt m (r .range .0) .len)) t .1)) in
           let same = same-slot q in
           omega arith
       go false t q = absurd (never-found q)

@@ -1,7 +1,7 @@
 -- The test by comparison tells Intel's canonical form.
-use mathlib.Core.Path.{_≡_, refl, ap, sym, subst, _∙_}
+use mathlib.Core.Path.{_≡_, ap, sym, subst, _∙_}
 use mathlib.Core.Logic.{_⊎_, inl, inr, ⊎-elim}
-use mathlib.Core.Bool.{Bool, true, false, _||_}
+use mathlib.Core.Bool.{Bool, true, false}
 use Prim.Native.Nat.{ℕ, _+_, _-_, _/_, _^_, _≤_, _<_}
 use native.Mathlib.Omega.{arith}
 use lib.Dec.{ltb, leb}
@@ -12,28 +12,7 @@ use Rattle.address.specs.BitsLaws.{bit-from, bit-zero, bit-ones, bits-sa
 use Rattle.address.specs.Canonical.{Canonical, canonical, checkedAddr}
 use Rattle.laws.specs.Tells.{Tells}
 use Rattle.laws.specs.TellsLaws.{tells-of}
-
--- of two tests, one
-pub either : (a b : Bool) → (a || b) ≡ true → (a ≡ true) ⊎ (b ≡ true)
-either true b e = inl refl
-either false b e = inr e
-
-pub or-left : (a b : Bool) → a ≡ true → (a || b) ≡ true
-or-left true b e = refl
-or-left false b e = absurd (mathlib.Core.Bool.false≢true e)
-
-pub or-right : (a b : Bool) → b ≡ true → (a || b) ≡ true
-or-right true b e = refl
-or-right false b e = e
-
--- the code's `x || y`, as its two ways answer
-or-first : (x y : Bool) → x ≡ true → x ≡ (x || y)
-or-first true y e = refl
-or-first false y e = absurd (mathlib.Core.Bool.false≢true e)
-
-or-second : (x y : Bool) → x ≡ false → y ≡ (x || y)
-or-second true y e = absurd (mathlib.Core.Bool.true≢false e)
-or-second false y e = refl
+use Rattle.laws.specs.BoolLaws.{either, or-left, or-right, or-first, or-second}
 
 module _ (a : ℕ) (fits : a < 2 ^ 64) where
   -- bit 47 + j of a is bit j of what stands above the low 47 bits

@@ -12,6 +12,7 @@ use lib.Bits.{bitAnd, bitXor, and-le-r, differ}
 use borrow.Author.Tests.{eqb-true, eq-eqb}
 use Rattle.address.specs.BitsLaws.{bit-from, bit-zero, bit-pow, bit-low, bit-and, bit-xor, bits-same, bit-cases, bit-small}
 use Rattle.laws.specs.Tells.{Tells}
+use Rattle.laws.specs.BoolLaws.{both-true}
 use Rattle.laws.specs.TellsLaws.{tells-of, tells-both, tells-same}
 
 -- document 01, BadFlags: "PRESENT missing, or a bit outside the four"
@@ -96,12 +97,8 @@ module _ (n : ℕ) (fits : n < 2 ^ 64) where
   unfolding goodFlags
   good-flags-tells = tells-of (goodFlags n) made kept
     where
-      split : (a b : Bool) → (a && b) ≡ true → (a ≡ true) × (b ≡ true)
-      split true b e = (refl, e)
-      split false b e = absurd (mathlib.Core.Bool.false≢true e)
-
       made : goodFlags n ≡ true → GoodFlags n
-      made e = let s = split _ _ e in record { isPresent = eqb-true _ _ (s .0); ofFour = four (eqb-true _ _ (s .1)) }
+      made e = let s = both-true _ _ e in record { isPresent = eqb-true _ _ (s .0); ofFour = four (eqb-true _ _ (s .1)) }
 
       kept : GoodFlags n → goodFlags n ≡ true
       kept g = rw (eq-eqb (bit n 0) 1 (g .isPresent), eq-eqb (n / 2 ^ 3 % 2 ^ 60) 0 (inner g))

@@ -20,7 +20,7 @@ use Rattle.model.specs.Machine.{Machine, State, noBacking, withPool}
 use Rattle.model.specs.Backing.{backingAt, inSome, freeFrames, poolOf, withBackings, lowestRun, claim, hold, letGo}
 use Rattle.model.specs.Sound.{R2, Sound, freeOf}
 use Rattle.model.specs.LookupLaws.{never-found, same-slot}
-use Rattle.backing.specs.BackingSteps.{framed, inRun, freeAbove, lowestFree, lowestFit, givenBack, putRow, claimed, held, released, nextFrame, withNextTaken}
+use Rattle.backing.specs.BackingSteps.{framed, inRun, lowestFit, givenBack, putRow, claimed, held, released, nextFrame, withNextTaken}
 use Rattle.backing.specs.FreeSearchLaws.{All, Run, run-of}
 use Rattle.backing.specs.CoveredLaws.{tells-covers}
 use Rattle.backing.specs.FreeRunLaws.{first-passes, first-none}
@@ -83,9 +83,6 @@ framed-most : (w : List ℕ) → length (framed (machine w)) ≤ 256
 framed-most w = simp length-take (omega (arith, backings-length w))
 
 -- of any words: a frame that was found has a row
-pub fit-low : (w : List ℕ) (n f : ℕ) → lowestFit (framed (machine w)) n ≡ At f → f + n ≤ 256
-fit-low w n f e = let inside = fit-inside (framed (machine w)) n f e in let most = framed-most w in omega arith
-
 pub next-low : (w : List ℕ) (f : ℕ) → nextFrame (machine w) ≡ At f → f < 256
 unfolding nextFrame
 next-low w f e = go (ltb (machine w .pool .next .0) (length (framed (machine w)))) refl e
@@ -101,11 +98,6 @@ next-low w f e = go (ltb (machine w .pool .next .0) (length (framed (machine w))
 module _ (m : Machine) (ready : Ready m) where
   pub framed-length : length (framed m) ≡ m .frameCount
   framed-length = let k = ready .rows in let s = ready .few in length-take-le (m .frameCount) (m .backings) (omega arith)
-
-  -- from the first frame on, the search finds the pool's next frame
-  pub lowest-is : lowestFree 0 (framed m) ≡ m .pool .next .0
-  unfolding lowestFree freeAbove freeFrames
-  lowest-is = let all : m .frameCount - 0 ≡ m .frameCount = omega arith in rw (framed-length, all) (sym (ready .r2 .next))
 
   -- the search for a run is the model's
   pub fit-is : (n : ℕ) → lowestFit (framed m) n ≡ lowestRun m n

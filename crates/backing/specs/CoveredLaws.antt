@@ -17,6 +17,7 @@ use Rattle.laws.specs.TestLaws.{tells-le, tells-lt, tells-or, tells-as}
 use Rattle.model.specs.Machine.{noBacking}
 use Rattle.model.specs.Backing.{inSome}
 use Rattle.backing.specs.BackingSteps.{inRun}
+use Rattle.laws.specs.BoolLaws.{or-swap}
 
 -- a frame lies in the backing of a row, where the rows are those of frames g, g + 1, ..
 pub record Covers (x g : ℕ) (l : List Backing) : Type 0 where
@@ -40,11 +41,6 @@ tells-covers x g (b ∷ l) = tells-as join part (tells-or (tells-both (tells-le 
 
     part : Covers x g (b ∷ l) → ((g ≤ x) × (x < g + b .len)) ⊎ Covers x (g + 1) l
     part k = at (k .row) (k .inside) (k .from) (k .until)
-
-or-swap : (a b c : Bool) → (a || (b || c)) ≡ (b || (a || c))
-or-swap true true c = refl
-or-swap true false c = refl
-or-swap false b c = refl
 
 -- a run of no frames has none
 no-run : (f x : ℕ) → inRun f 0 x ≡ false

@@ -2,7 +2,7 @@
 use mathlib.Core.Path.{_≡_, refl, ap, sym, _∙_}
 use mathlib.Core.Bool.{Bool, true, false, _||_, not, cond, true≢false, false≢true}
 use mathlib.Core.List.{List, [], _∷_}
-use Prim.Native.Nat.{ℕ, zero, suc, _+_, _-_, _≤_, _<_, zero-le}
+use Prim.Native.Nat.{ℕ, zero, suc, _+_, _-_, _≤_, _<_}
 use native.Mathlib.Omega.{arith}
 use lib.ListN.{length}
 use lib.Dec.{ltb}
@@ -18,21 +18,6 @@ before-run f n x p = rw (lt-leb f x p)
 
 past-run : (f n x : ℕ) → f + n ≤ x → inRun f n x ≡ false
 past-run f n x p = rw (le-leb f x (omega arith), le-ltb x (f + n) p)
-
--- no more pass than there are
-pub keep-most : {A : Type 0} (p : A → Bool) (l : List A) → length (keep p l) ≤ length l
-unfolding keep
-keep-most p [] = zero-le
-keep-most p (x ∷ l) = go (p x) (keep-most p l)
-  where
-    go : (b : Bool) → length (keep p l) ≤ length l → length (cond b (x ∷ keep p l) (keep p l)) ≤ suc (length l)
-    go true h = omega arith
-    go false h = omega arith
-
-pub up-length : (a n : ℕ) → length (upFrom a n) ≡ n
-unfolding upFrom
-up-length a zero = refl
-up-length a (suc n) = ap suc (up-length (a + 1) n)
 
 -- of the numbers from a on that are in a run, with a in it or past it
 count-rest : (f n a k : ℕ) → f ≤ a → f + n ≤ a + k → length (keep (inRun f n) (upFrom a k)) ≡ f + n - a

@@ -4,14 +4,14 @@ use mathlib.Core.Bool.{Bool, true, false, cond}
 use mathlib.Core.List.{List, [], _∷_}
 use Prim.Native.Nat.{ℕ, suc, _+_, _-_, _≤_, _<_}
 use native.Mathlib.Omega.{arith}
-use lib.ListN.{length, getD, drop, length-drop, drop-of-length-le}
-use lib.Seq.{drop-cons}
+use lib.ListN.{length, getD, drop, length-drop}
 use lib.Dec.{eqb, ltb}
 use borrow.Author.Tests.{ltb-true, ltb-false, eqb-true, eqb-false, eq-eqb, ne-eqb}
-use native.Mathlib.Numerals.{add-one}
 use Rattle.model.specs.declared.Backing.{Backing}
+use Rattle.model.specs.declared.Found.{Found}
 use Rattle.model.specs.declared.Found.the-variants.{At, Nothing}
 use Rattle.laws.specs.Lists.{first}
+use Rattle.laws.specs.LoopLaws.{Remains, loop-found, loop-more, loop-none}
 use Rattle.model.specs.Machine.{noBacking}
 use Rattle.model.specs.Backing.{runFrom}
 use Rattle.model.specs.LookupLaws.{never-found, same-slot}
@@ -22,41 +22,45 @@ use Rattle.backing.specs.BackingSteps.{freeAbove, lowestFree, lowestFit}
 
 -- ---- the rest of a pass, one row at a time
 
-module _ (l : List Backing) (i k c : ℕ) (inside : i < length l) (b : Backing) (read : b ≡ getD l i noBacking) (now : c ≡ cover k (b .len)) where
-  rest-is : freeFrom k i (drop i l) ≡ cond (eqb c 0) (i ∷ freeFrom c (i + 1) (drop (i + 1) l)) (freeFrom c (i + 1) (drop (i + 1) l))
+module _ (i k c : ℕ) (b : Backing) (now : c ≡ cover k (b .len)) (t : List Backing) where
+  abbrev pass-by : Bool → List ℕ
+  pass-by free = cond free (i ∷ freeFrom c (i + 1) t) (freeFrom c (i + 1) t)
+
+  row-is : freeFrom k i (b ∷ t) ≡ pass-by (eqb c 0)
   unfolding freeFrom
-  rest-is = rw (drop-cons l i noBacking inside, ← read, ← now, add-one i)
+  row-is = rw (← now)
 
-  rest-free : c ≡ 0 → freeFrom k i (drop i l) ≡ i ∷ freeFrom c (i + 1) (drop (i + 1) l)
-  rest-free z = rest-is ∙ ap (λ t. cond t (i ∷ freeFrom c (i + 1) (drop (i + 1) l)) (freeFrom c (i + 1) (drop (i + 1) l))) (eq-eqb c 0 z)
+  row-free : c ≡ 0 → freeFrom k i (b ∷ t) ≡ i ∷ freeFrom c (i + 1) t
+  row-free z = row-is ∙ ap pass-by (eq-eqb c 0 z)
 
-  rest-used : (c ≡ 0 → ⊥) → freeFrom k i (drop i l) ≡ freeFrom c (i + 1) (drop (i + 1) l)
-  rest-used n = rest-is ∙ ap (λ t. cond t (i ∷ freeFrom c (i + 1) (drop (i + 1) l)) (freeFrom c (i + 1) (drop (i + 1) l))) (ne-eqb c 0 n)
-
-rest-none : (l : List Backing) (i k : ℕ) → length l ≤ i → freeFrom k i (drop i l) ≡ []
-unfolding freeFrom
-rest-none l i k h = rw (drop-of-length-le l {i = i} h)
+  row-used : (c ≡ 0 → ⊥) → freeFrom k i (b ∷ t) ≡ freeFrom c (i + 1) t
+  row-used n = row-is ∙ ap pass-by (ne-eqb c 0 n)
 
 -- ---- the lowest free frame: the rest of the pass gives the same answer
 
-abbrev pub Sought : ℕ → List Backing → ℕ → ℕ → ℕ → Type 0
-Sought from l n i k = first n (freeFrom k i (drop i l)) ≡ lowestFree from l
+-- the lowest free frame that the rows from i on have, or n
+abbrev pub lowestFrom : ℕ → ℕ → ℕ → List Backing → ℕ
+lowestFrom n i k t = first n (freeFrom k i t)
+
+abbrev pub LowestSought : ℕ → List Backing → ℕ → ℕ → ℕ → Type 0
+LowestSought from l n i k = Remains (lowestFrom n i k) l i (lowestFree from l)
 
 module _ (from : ℕ) (l : List Backing) (n : ℕ) (sized : n ≡ length l) where
-  pub seek-first : Sought from l n from 0
+  pub seek-first : LowestSought from l n from 0
   unfolding lowestFree freeAbove
   seek-first = rw (sized, pass-anew from (drop from l), length-drop from l)
 
-  module _ (i k : ℕ) (s : Sought from l n i k) where
+  module _ (i k : ℕ) (s : LowestSought from l n i k) where
     pub seek-none : n ≤ i → n ≡ lowestFree from l
-    seek-none h = sym (ap (first n) (rest-none l i k (omega arith))) ∙ s
+    unfolding freeFrom
+    seek-none h = loop-none (lowestFrom n i k) l i (lowestFree from l) s (omega arith)
 
     module _ (h : i < n) (b : Backing) (read : b ≡ getD l i noBacking) (c : ℕ) (now : c ≡ cover k (b .len)) where
       pub seek-found : c ≡ 0 → i ≡ lowestFree from l
-      seek-found z = sym (ap (first n) (rest-free l i k c (omega arith) b read now z)) ∙ s
+      seek-found z = loop-found (lowestFrom n i k) l i (lowestFree from l) s (omega arith) noBacking b read i (λ t. ap (first n) (row-free i k c b now t z))
 
-      pub seek-more : (c ≡ 0 → ⊥) → Sought from l n (i + 1) c
-      seek-more z = sym (ap (first n) (rest-used l i k c (omega arith) b read now z)) ∙ s
+      pub seek-more : (c ≡ 0 → ⊥) → LowestSought from l n (i + 1) c
+      seek-more z = loop-more (lowestFrom n i k) l i (lowestFree from l) s (omega arith) noBacking b read (lowestFrom n (i + 1) c) (λ t. ap (first n) (row-used i k c b now t z))
 
 -- ---- the lowest run: the frames from `start` on up to i are free so far
 
@@ -75,8 +79,12 @@ anew n f k s (x ∷ l) h = rw (ne-eqb x (f + k) h) (go (eqb x (s + 0)) refl (eqb
 pass-above : (k g d : ℕ) (l : List Backing) → g ≤ d → g ≤ first d (freeFrom k g l)
 pass-above k g d l h = rw (pass k g l) (first-above _ d g (length l) h)
 
+-- the lowest run that the rows from i on have, with the free frames from `start` on up to i before them
+abbrev pub runOn : ℕ → ℕ → ℕ → ℕ → List Backing → Found
+runOn wanted start i k t = runFrom wanted start (i - start) (freeFrom k i t)
+
 abbrev pub Ran : List Backing → ℕ → ℕ → ℕ → ℕ → ℕ → Type 0
-Ran l n wanted start i k = (i ≤ n) × ((start ≤ i) × (runFrom wanted start (i - start) (freeFrom k i (drop i l)) ≡ lowestFit l wanted))
+Ran l n wanted start i k = (i ≤ n) × ((start ≤ i) × Remains (runOn wanted start i k) l i (lowestFit l wanted))
 
 module _ (l : List Backing) (n wanted : ℕ) (sized : n ≡ length l) where
   pub run-first : Ran l n wanted 0 0 0
@@ -85,48 +93,61 @@ module _ (l : List Backing) (n wanted : ℕ) (sized : n ≡ length l) where
 
   module _ (start i k : ℕ) (s : Ran l n wanted start i k) where
     pub run-none : n ≤ i → Nothing ≡ lowestFit l wanted
-    unfolding runFrom
-    run-none h = sym (ap (runFrom wanted start (i - start)) (rest-none l i k (omega arith))) ∙ s .1 .1
+    unfolding runFrom freeFrom
+    run-none h = loop-none (runOn wanted start i k) l i (lowestFit l wanted) (s .1 .1) (omega arith)
 
     module _ (h : i < n) (b : Backing) (read : b ≡ getD l i noBacking) (c : ℕ) (now : c ≡ cover k (b .len)) where
       abbrev up : ℕ
       up = i - start
 
-      abbrev rest : List ℕ
-      rest = freeFrom c (i + 1) (drop (i + 1) l)
+      abbrev rest : List Backing → List ℕ
+      rest t = freeFrom c (i + 1) t
 
       -- frame i is free: the run is one longer
-      free-step : c ≡ 0 → runFrom wanted start up (freeFrom k i (drop i l)) ≡ cond (eqb (up + 1) wanted) (At start) (runFrom wanted start (up + 1) rest)
+      abbrev longer-by : Bool → List Backing → Found
+      longer-by found t = cond found (At start) (runFrom wanted start (up + 1) (rest t))
+
+      free-step : (t : List Backing) → c ≡ 0 → runOn wanted start i k (b ∷ t) ≡ longer-by (eqb (up + 1) wanted) t
       unfolding runFrom
-      free-step z = let le = s .1 .0 in let here : i ≡ start + up = omega arith in rw (rest-free l i k c (omega arith) b read now z, eq-eqb i (start + up) here)
+      free-step t z = let le = s .1 .0 in let here : i ≡ start + up = omega arith in rw (row-free i k c b now t z, eq-eqb i (start + up) here)
 
       -- it is in a backing: a run starts past it
-      used-step : (c ≡ 0 → ⊥) → runFrom wanted start up (freeFrom k i (drop i l)) ≡ runFrom wanted (i + 1) 0 rest
-      used-step z =
+      used-step : (t : List Backing) → (c ≡ 0 → ⊥) → runOn wanted start i k (b ∷ t) ≡ runFrom wanted (i + 1) 0 (rest t)
+      used-step t z =
           let le = s .1 .0 in
-          let above = pass-above c (i + 1) (suc (start + up)) (drop (i + 1) l) (omega arith) in
-          ap (runFrom wanted start up) (rest-used l i k c (omega arith) b read now z) ∙ anew wanted start up (i + 1) rest (λ e. omega arith)
+          let above = pass-above c (i + 1) (suc (start + up)) t (omega arith) in
+          ap (runFrom wanted start up) (row-used i k c b now t z) ∙ anew wanted start up (i + 1) (rest t) (λ e. omega arith)
 
       module _ (t : ℕ) (starts : t ≡ cond (eqb c 0) start (i + 1)) (some : wanted ≡ 0 → ⊥) where
         pub run-found : i + 1 - t ≡ wanted → At t ≡ lowestFit l wanted
         run-found e = go (eqb c 0) refl starts
           where
             go : (a : Bool) → eqb c 0 ≡ a → t ≡ cond a start (i + 1) → At t ≡ lowestFit l wanted
-            go true q r = let le = s .1 .0 in ap (λ (y : ℕ). At y) r ∙ sym (ap (λ a. cond a (At start) (runFrom wanted start (up + 1) rest)) (eq-eqb (up + 1) wanted (omega arith))) ∙ sym (free-step (eqb-true c 0 q)) ∙ s .1 .1
+            go true q r =
+                let le = s .1 .0 in
+                let long = eq-eqb (up + 1) wanted (omega arith) in
+                ap (λ (y : ℕ). At y) r
+                ∙ loop-found (runOn wanted start i k) l i (lowestFit l wanted) (s .1 .1) (omega arith) noBacking b read (At start) (λ u. free-step u (eqb-true c 0 q) ∙ ap (λ a. longer-by a u) long)
             go false q r = absurd (some (omega arith))
 
         pub run-more : (i + 1 - t ≡ wanted → ⊥) → Ran l n wanted t (i + 1) c
-        run-more e = go (eqb c 0) refl starts
+        run-more e =
+            (omega arith, (reached (eqb c 0) starts, loop-more (runOn wanted start i k) l i (lowestFit l wanted) (s .1 .1) (omega arith) noBacking b read (runOn wanted t (i + 1) c) (λ u. on u (eqb c 0) refl starts)))
           where
-            go : (a : Bool) → eqb c 0 ≡ a → t ≡ cond a start (i + 1) → Ran l n wanted t (i + 1) c
-            go true q r =
+            reached : (a : Bool) → t ≡ cond a start (i + 1) → t ≤ i + 1
+            reached true r = let le = s .1 .0 in omega arith
+            reached false r = omega arith
+
+            on : (u : List Backing) (a : Bool) → eqb c 0 ≡ a → t ≡ cond a start (i + 1) → runOn wanted start i k (b ∷ u) ≡ runFrom wanted t (i + 1 - t) (rest u)
+            on u true q r =
                 let le = s .1 .0 in
                 let long : i + 1 - t ≡ up + 1 = omega arith in
-                let longer = free-step (eqb-true c 0 q) ∙ ap (λ a. cond a (At start) (runFrom wanted start (up + 1) rest)) (ne-eqb (up + 1) wanted (λ z. e (long ∙ z))) in
-                (omega arith, (omega arith, ap (λ (y : ℕ). runFrom wanted y (i + 1 - t) rest) r ∙ ap (λ (y : ℕ). runFrom wanted start y rest) long ∙ sym longer ∙ s .1 .1))
-            go false q r =
+                free-step u (eqb-true c 0 q) ∙ ap (λ a. longer-by a u) (ne-eqb (up + 1) wanted (λ z. e (long ∙ z)))
+                ∙ ap (λ (y : ℕ). runFrom wanted start y (rest u)) (sym long) ∙ ap (λ (y : ℕ). runFrom wanted y (i + 1 - t) (rest u)) (sym r)
+            on u false q r =
                 let none : i + 1 - t ≡ 0 = omega arith in
-                (omega arith, (omega arith, ap (λ (y : ℕ). runFrom wanted y (i + 1 - t) rest) r ∙ ap (λ (y : ℕ). runFrom wanted (i + 1) y rest) none ∙ sym (used-step (eqb-false c 0 q)) ∙ s .1 .1))
+                used-step u (eqb-false c 0 q)
+                ∙ ap (λ (y : ℕ). runFrom wanted (i + 1) y (rest u)) (sym none) ∙ ap (λ (y : ℕ). runFrom wanted y (i + 1 - t) (rest u)) (sym r)
 
 -- ---- a run that was found
 

@@ -1,26 +1,17 @@
 -- On a sound machine a backing has at most 1,024 holders: the page entries and the regions.
 use mathlib.Core.Logic.{_≢_}
-use mathlib.Core.Bool.{Bool, true, false, _&&_, not, cond}
-use mathlib.Core.List.{List, [], _∷_}
-use Prim.Native.Nat.{ℕ, suc, _+_, _≤_, zero-le}
+use mathlib.Core.Bool.{_&&_, not}
+use Prim.Native.Nat.{ℕ, _+_, _≤_}
 use native.Mathlib.Omega.{arith}
 use lib.ListN.{length, length-append, length-map}
 use lib.Dec.{eqb}
 use Rattle.model.specs.Machine.{Machine, State}
-use Rattle.model.specs.Lookup.{isUsed, isRanged, count}
+use Rattle.model.specs.Lookup.{isUsed, isRanged}
 use Rattle.model.specs.Backing.{backingAt}
 use Rattle.model.specs.Sound.{Sound, Hold, entryHolds, rangeHolds, holds, holdersOf}
-use Rattle.backing.specs.FreeRunLaws.{keep-most}
+use Rattle.laws.specs.ListsLaws.{keep-most}
 use Rattle.backing.specs.BackingLaws.{sound-ready, used-low}
-
-count-most : {A : Type 0} (f : A → Bool) (l : List A) → count f l ≤ length l
-unfolding count
-count-most f [] = zero-le
-count-most f (x ∷ l) = go (f x) (count-most f l)
-  where
-    go : (b : Bool) → count f l ≤ length l → cond b (count f l + 1) (count f l) ≤ suc (length l)
-    go true h = omega arith
-    go false h = omega arith
+use Rattle.laws.specs.CountLaws.{count-most}
 
 holds-most : (m : Machine) → length (holds m) ≤ length (m .entries) + length (m .regions)
 unfolding holds entryHolds rangeHolds

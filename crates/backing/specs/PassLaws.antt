@@ -1,6 +1,6 @@
 -- Laws of `Pass`: the free frames by one pass over the rows of backings: how many frames from a row on are in a backing.
 use mathlib.Core.Path.{_≡_, refl, ap, sym, _∙_}
-use mathlib.Core.Bool.{Bool, true, false, _&&_, _||_, not, cond}
+use mathlib.Core.Bool.{Bool, true, false, _&&_, _||_, not, cond, or-assoc, or-false}
 use mathlib.Core.List.{List, [], _∷_}
 use Prim.Native.Nat.{ℕ, zero, suc, _+_, _-_, _≤_, _<_}
 use native.Mathlib.Omega.{arith}
@@ -22,14 +22,6 @@ freeFrom k g (b ∷ l) = let rest = freeFrom (cover k (b .len)) (g + 1) l in con
 -- two tests of one comparison
 same-lt : (a b c d : ℕ) → (a < b → c < d) → (c < d → a < b) → ltb a b ≡ ltb c d
 same-lt a b c d f g = tells-same (tells-as f g (tells-lt a b)) (tells-lt c d)
-
-or-assoc : (a b c : Bool) → (a || (b || c)) ≡ ((a || b) || c)
-or-assoc true b c = refl
-or-assoc false b c = refl
-
-or-none : (a : Bool) → (a || false) ≡ a
-or-none true = refl
-or-none false = refl
 
 below-cover : (x k n : ℕ) → ltb x (cover k n) ≡ (ltb x (k - 1) || ltb x n)
 below-cover x k n = go (ltb (k - 1) n) refl (ltb x (k - 1)) refl
@@ -55,7 +47,7 @@ through : (x g k n : ℕ) (i : Bool) → g ≤ x → (ltb (x + 1) (g + k) || ((l
 through x g k n i h =
     let a = same-lt (x + 1) (g + k) (x - g) (k - 1) (λ p. omega arith) (λ p. omega arith) in
     let b = same-lt x (g + n) (x - g) n (λ p. omega arith) (λ p. omega arith) in
-    rw (le-leb g x h, a, b) (or-assoc (ltb (x - g) (k - 1)) (ltb (x - g) n) i ∙ ap (λ t. t || i) (sym (below-cover (x - g) k n)))
+    rw (le-leb g x h, a, b) (sym (or-assoc (ltb (x - g) (k - 1)) (ltb (x - g) n) i) ∙ ap (λ t. t || i) (sym (below-cover (x - g) k n)))
 
 -- tests that agree from a on keep the same
 pub keep-same : (p q : ℕ → Bool) (a n : ℕ) → ((x : ℕ) → a ≤ x → p x ≡ q x) → keep p (upFrom a n) ≡ keep q (upFrom a n)
@@ -79,7 +71,7 @@ pass k g (b ∷ l) = sym (ap (λ t. cond t (g ∷ keep test (upFrom (g + 1) (len
     here =
         let zero-off : g - g ≡ 0 = omega arith in
         ap not (through g g k (b .len) (inSome g (g + 1) l) (omega arith)) ∙ ap (λ (n : ℕ). not (ltb n c || inSome g (g + 1) l)) zero-off
-        ∙ ap (λ t. not (ltb 0 c || t)) (none-later g (g + 1) l (omega arith)) ∙ ap not (or-none (ltb 0 c)) ∙ no-cover c
+        ∙ ap (λ t. not (ltb 0 c || t)) (none-later g (g + 1) l (omega arith)) ∙ ap not (or-false (ltb 0 c)) ∙ no-cover c
 
     later : keep test (upFrom (g + 1) (length l)) ≡ keep (λ x. not (ltb (x + 1) (g + 1 + c) || inSome x (g + 1) l)) (upFrom (g + 1) (length l))
     later = keep-same _ _ (g + 1) (length l) (λ x h. ap not (through x g k (b .len) (inSome x (g + 1) l) (omega arith)) ∙ ap (λ t. not (t || inSome x (g + 1) l)) (same-lt (x - g) c (x + 1) (g + 1 + c) (λ p. omega arith) (λ p. omega arith)))

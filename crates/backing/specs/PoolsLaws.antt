@@ -7,6 +7,7 @@ use native.Mathlib.Omega.{arith}
 use lib.ListN.{length, getD, set, drop, length-set}
 use lib.Seq.{getD-set-other}
 use borrow.Author.Tests.{not-true}
+use Rattle.laws.specs.ListsLaws.{keep-most, up-length}
 use Rattle.laws.specs.TellsLaws.{told}
 use Rattle.model.specs.declared.Backing.{Backing}
 use Rattle.model.specs.declared.Pool.{Pool}
@@ -16,7 +17,7 @@ use Rattle.model.specs.Backing.{inSome, freeFrames, poolOf}
 use Rattle.backing.specs.PassLaws.{keep-same}
 use Rattle.backing.specs.BackingSteps.{inRun, freeAbove, lowestFree, takenFrom, givenBack, lower}
 use Rattle.backing.specs.CoveredLaws.{tells-covers, covers-row, covers-kept, covers-more, covers-drop}
-use Rattle.backing.specs.FreeRunLaws.{keep-most, up-length, in-run, first-most, first-passes, keep-skip, few-many, count-split, given-first}
+use Rattle.backing.specs.FreeRunLaws.{in-run, first-most, first-passes, keep-skip, few-many, count-split, given-first}
 
 -- "the pool's free frames are those in no backing"
 pub record Right (q : Pool) (n : ℕ) (l : List Backing) : Type 0 where

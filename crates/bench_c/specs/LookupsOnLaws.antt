@@ -1,10 +1,11 @@
 -- Laws of `LookupsOn`: lent words that are a machine's, and answers as numbers where they are not.
-use mathlib.Core.Path.{_≡_, refl, sym, _∙_}
-use mathlib.Core.Bool.{Bool, true, false, true≢false}
+use mathlib.Core.Path.{_≡_, refl}
+use mathlib.Core.Bool.{Bool, true, false}
 use mathlib.Core.List.{List}
 use Prim.Native.Nat.{ℕ, _≤_, _<_}
 use lib.ListN.{length}
 use borrow.Author.Tests.{eq-eqb, ne-eqb, lt-ltb, le-ltb}
+use Rattle.laws.specs.BoolLaws.{clash}
 use Rattle.model.specs.Machine.{Machine}
 use Rattle.model.specs.Layout.{wordCount, machine}
 use Rattle.bench_c.specs.LookupsOn.{thereBelow, answerIf, Left}
@@ -30,11 +31,8 @@ pub unanswered : (b : Bool) (x d : ℕ) → b ≡ false → d ≡ answerIf b x d
 unfolding answerIf
 unanswered b x d p = rw p
 
-clash : {b : Bool} → b ≡ true → b ≡ false → ⊥
-clash p q = true≢false (sym p ∙ q)
-
 pub left-changed : (b : Bool) (words words' : List ℕ) (m : Machine) → b ≡ true → machine words' ≡ m → Left b words words' m
-left-changed b words words' m p e = record { changed = λ _. e; kept = λ q. absurd (clash p q) }
+left-changed b words words' m p e = record { changed = λ _. e; kept = λ q. clash p q }
 
 pub left-kept : (b : Bool) (words : List ℕ) (m : Machine) → b ≡ false → Left b words words m
-left-kept b words m p = record { changed = λ q. absurd (clash q p); kept = λ _. refl }
+left-kept b words m p = record { changed = λ q. clash q p; kept = λ _. refl }

@@ -6,6 +6,7 @@ use Prim.Native.Nat.{ℕ}
 use lib.ListN.{length}
 use lib.Dec.{eqb}
 use borrow.Author.Tests.{eqb-true, eq-eqb}
+use Rattle.laws.specs.BoolLaws.{both-true}
 use Rattle.answers.specs.declared.Refusal.{Refusal}
 use Rattle.answers.specs.declared.Refusal.the-variants.{BadTable}
 use Rattle.model.specs.declared.Done.the-variants.{Yes, No}
@@ -23,11 +24,7 @@ use Rattle.calls.specs.Answered.{answerOn, Leaves}
 module _ (w f b : List ℕ) (told : soundLent w f b ≡ true) where
   both : (eqb (length w) wordCount ≡ true) × (soundb (stateOf w f b) ≡ true)
   unfolding soundLent
-  both = go (eqb (length w) wordCount) (soundb (stateOf w f b)) told
-    where
-      go : (x y : Bool) → (x && y) ≡ true → (x ≡ true) × (y ≡ true)
-      go true y e = (refl, e)
-      go false y e = absurd (false≢true e)
+  both = both-true (eqb (length w) wordCount) (soundb (stateOf w f b)) told
 
   pub sound-length : length w ≡ wordCount
   sound-length = eqb-true (length w) wordCount (both .0)

@@ -1,6 +1,6 @@
 -- Laws of `Plans`: what creation plans: the first refusal, or the spot, the run and the slot that the searches find.
 use mathlib.Core.Path.{_≡_, refl, ap, sym, _∙_}
-use mathlib.Core.Bool.{Bool, true, false, _&&_, not, cond, false≢true}
+use mathlib.Core.Bool.{Bool, true, false, _&&_, not, cond, false≢true, and-true, and-false}
 use mathlib.Core.List.{List, [], _∷_, _++_}
 use Prim.Native.Nat.{ℕ}
 use native.Mathlib.Omega.{arith}
@@ -29,24 +29,16 @@ use Rattle.create.specs.Plans.{runFor, searchRefusals, frameFound, planF
 
 -- ---- a run
 
-and-false : (b : Bool) → false ≡ (b && false)
-and-false true = refl
-and-false false = refl
-
-and-true : (b : Bool) → b ≡ (b && true)
-and-true true = refl
-and-true false = refl
-
 module _ (eager : Bool) (r : Region) where
   pub needed-shared : (b : Bool) → eager ≡ false → b ≡ runNeeded false r → b ≡ runNeeded eager r
   needed-shared b e f = f ∙ ap (λ (x : Bool). runNeeded x r) (sym e)
 
   module _ (run : Found) where
     pub lacks-none : run ≡ Nothing → (b : Bool) → b ≡ runNeeded eager r → b ≡ (runNeeded eager r && not (isFound run))
-    lacks-none e b f = f ∙ and-true (runNeeded eager r) ∙ ap (λ (x : Found). runNeeded eager r && not (isFound x)) (sym e)
+    lacks-none e b f = f ∙ sym (and-true (runNeeded eager r)) ∙ ap (λ (x : Found). runNeeded eager r && not (isFound x)) (sym e)
 
     pub lacks-not : (f : ℕ) → run ≡ At f → false ≡ (runNeeded eager r && not (isFound run))
-    lacks-not f e = and-false (runNeeded eager r) ∙ ap (λ (x : Found). runNeeded eager r && not (isFound x)) (sym e)
+    lacks-not f e = sym (and-false (runNeeded eager r)) ∙ ap (λ (x : Found). runNeeded eager r && not (isFound x)) (sym e)
 
   module _ (m : Machine) (b : Bool) (e : b ≡ runNeeded eager r) where
     pub run-needed : b ≡ true → (f : Found) → f ≡ lowestRun m (pagesFor (r .size)) → f ≡ runFor m eager r

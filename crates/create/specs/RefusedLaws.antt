@@ -1,12 +1,13 @@
 -- Laws of `Refused`: the tests of what was asked for, and which of them refuses: one law for each way through the code.
 use mathlib.Core.Path.{_≡_, refl, ap, sym, _∙_}
 use mathlib.Core.Logic.{_≢_}
-use mathlib.Core.Bool.{Bool, true, false, _||_, not, cond, false≢true}
+use mathlib.Core.Bool.{Bool, true, false, _||_, not, cond, false≢true, or-false}
 use mathlib.Core.List.{[], _∷_}
 use Prim.Native.Nat.{ℕ, _+_, _-_, _^_, _≤_, _<_}
 use native.Mathlib.Omega.{arith}
 use lib.Dec.{eqb, ltb, leb}
 use borrow.Author.Tests.{eq-eqb, ne-eqb, lt-ltb, le-ltb, ltb-false, not-false}
+use Rattle.laws.specs.BoolLaws.{or-right, or-none}
 use Rattle.address.specs.declared.VirtAddr.{VirtAddr}
 use Rattle.address.specs.declared.flags.PageTableFlags.{PageTableFlags}
 use Rattle.address.specs.declared.flags.CheckedFlags.the-variants.{Good, Bad}
@@ -82,27 +83,15 @@ module _ (r : Region) where
 
 -- ---- a range
 
-or-true : (a b : Bool) → b ≡ true → true ≡ (a || b)
-or-true true b e = refl
-or-true false b e = sym e
-
-or-false : (a b : Bool) → b ≡ false → a ≡ (a || b)
-or-false true b e = refl
-or-false false b e = sym e
-
-neither : (a b : Bool) → (a || b) ≡ false → b ≡ false
-neither true b e = absurd (false≢true (sym e))
-neither false b e = e
-
 module _ (place : Place) (r : Region) (b : Bool) (e : b ≡ badSize r) where
   pub range-size : b ≡ true → true ≡ badRange place r
-  range-size t = or-true (badPlace place (r .size)) (badSize r) (sym e ∙ t)
+  range-size t = sym (or-right (badPlace place (r .size)) (badSize r) (sym e ∙ t))
 
   pub range-fits : b ≡ false → r .size ≤ 2 ^ 47
   range-fits f = size-fits r (sym e ∙ f)
 
   pub range-place : b ≡ false → (d : Bool) → d ≡ badPlace place (r .size) → d ≡ badRange place r
-  range-place f d g = g ∙ or-false (badPlace place (r .size)) (badSize r) (sym e ∙ f)
+  range-place f d g = g ∙ sym (or-false (badPlace place (r .size))) ∙ ap (λ (x : Bool). badPlace place (r .size) || x) (sym (sym e ∙ f))
 
 -- ---- flags, a file
 
@@ -180,4 +169,4 @@ module _ (m : Machine) (p : ℕ) (place : Place) (r : Region) where
       let one = first-passed _ NoProcess _ e in
       let two = first-passed _ BadAddress _ (one .1) in
       let three = first-passed _ BadRange _ (two .1) in
-      size-fits r (neither (badPlace place (r .size)) (badSize r) (three .0))
+      size-fits r (or-none (badPlace place (r .size)) (badSize r) (three .0) .1)

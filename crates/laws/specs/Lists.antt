@@ -50,3 +50,8 @@ upFrom n (suc k) = n ∷ upFrom (n + 1) k
 abbrev pub first : {A : Type 0} → A → List A → A
 first d [] = d
 first d (x ∷ l) = x
+
+-- how many rows pass a test
+unfoldable pub count : {A : Type 0} → (A → Bool) → List A → ℕ
+count f [] = 0
+count f (x ∷ l) = let rest = count f l in cond (f x) (rest + 1) rest

@@ -5,7 +5,7 @@ use mathlib.Core.List.{_∷_}
 use Prim.Native.Nat.{ℕ, zero, suc, _<_, zero-le, suc-le-suc}
 use native.Mathlib.Nat.{le-of-suc-le-suc, not-suc-le-zero}
 use native.Mathlib.Decide.{ℕ-discrete}
-use lib.ListN.{length, getD, set, length-set}
+use lib.ListN.{length, getD, set, length-set, replicate}
 use lib.Seq.{ext-getD, getD-set-same, getD-set-other}
 use Rattle.laws.specs.Rows.{rows}
 
@@ -41,3 +41,13 @@ rows-set f g n i a h e o =
         go : Dec (j ≡ i) → getD (rows g n) j a ≡ getD (set (rows f n) i a) j a
         go (yes p) = rows-at g n j a below ∙ ap g p ∙ e ∙ sym (getD-set-same (rows f n) i a a (rw rows-length h)) ∙ ap (λ x. getD (set (rows f n) i a) x a) (sym p)
         go (no p) = rows-at g n j a below ∙ o j below p ∙ sym (rows-at f n j a below) ∙ sym (getD-set-other (rows f n) i j a a p)
+
+-- equal tables have equal rows
+pub row-same : {A : Type 0} (f g : ℕ → A) (n i : ℕ) → i < n → rows f n ≡ rows g n → f i ≡ g i
+row-same f g n i h e = sym (rows-at f n i (f i) h) ∙ ap (λ l. getD l i (f i)) e ∙ rows-at g n i (f i) h
+
+-- rows that are all the same
+pub same-rows : {A : Type 0} (f : ℕ → A) (d : A) → ((i : ℕ) → f i ≡ d) → (n : ℕ) → rows f n ≡ replicate n d
+unfolding rows
+same-rows f d h zero = refl
+same-rows f d h (suc n) = λ k. h zero k ∷ same-rows (λ i. f (suc i)) d (λ i. h (suc i)) n k

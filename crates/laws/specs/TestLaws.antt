@@ -1,18 +1,20 @@
--- Laws of `Tests`: tests that tell propositions: comparisons, connectives, every row of a table, every two rows.
-use mathlib.Core.Path.{_≡_, refl, sym, subst}
+-- Laws of `Tests`: tests that tell propositions: comparisons, connectives, every row of a table, every two rows; and the same test in other words.
+use mathlib.Core.Path.{_≡_, refl, ap, sym, subst, _∙_}
 use mathlib.Core.Logic.{_⊎_, inl, inr, _≢_}
-use mathlib.Core.Bool.{Bool, true, false, not, _||_, true≢false, false≢true}
-use mathlib.Core.List.{List, [], _∷_}
+use mathlib.Core.Bool.{Bool, true, false, not, _&&_, _||_, cond, true≢false, false≢true}
+use mathlib.Core.List.{List, [], _∷_, map}
 use Prim.Native.Nat.{ℕ, zero, suc, _+_, _≤_, _<_, zero-le, suc-le-suc}
 use native.Mathlib.Nat.{le-of-suc-le-suc, not-suc-le-zero}
 use native.Mathlib.Omega.{arith}
-use lib.ListN.{length, getD}
+use native.Mathlib.Numerals.{add-one}
+use lib.ListN.{length, getD, drop}
+use lib.Seq.{drop-drop}
 use lib.Dec.{eqb, ltb, leb}
 use borrow.Author.Tests.{ltb-true, leb-true, eqb-true, lt-ltb, le-leb, eq-eqb}
 use Rattle.laws.specs.Tells.{Tells}
 use Rattle.laws.specs.TellsLaws.{tells-of, tells-both}
-use Rattle.laws.specs.Lists.{all}
-use Rattle.laws.specs.Tests.{allRows, Rows, allPairs, Pairs}
+use Rattle.laws.specs.Lists.{all, keep}
+use Rattle.laws.specs.Tests.{allRows, Rows, allPairs, Pairs, later}
 
 pub tells-eq : (a b : ℕ) → Tells (eqb a b) (a ≡ b)
 tells-eq a b = tells-of (eqb a b) (eqb-true a b) (eq-eqb a b)
@@ -93,3 +95,62 @@ tells-pairs d u U f Q s t (x ∷ l) = tells-as join part (tells-both (tells-if (
 
     part : Pairs d (x ∷ l) U Q → (U x → (i : ℕ) → i < length l → Q x (getD l i d)) × Pairs d l U Q
     part g = (λ v i h. g zero (suc i) (suc-le-suc zero-le) (suc-le-suc h) v, λ i j h k v. g (suc i) (suc j) (suc-le-suc h) (suc-le-suc k) v)
+
+-- ---- the same test in other words
+
+-- a test that does not ask for a row's number
+pub all-rows : {A : Type 0} (f : A → Bool) (k : ℕ) (l : List A) → all f l ≡ allRows (λ i x. f x) k l
+unfolding all allRows
+all-rows f k [] = refl
+all-rows f k (x ∷ l) = ap (λ b. f x && b) (all-rows f (suc k) l)
+
+-- two tests of every row are one test of both
+pub rows-both : {A : Type 0} (f g : ℕ → A → Bool) (i : ℕ) (l : List A) → allRows (λ j x. f j x && g j x) i l ≡ (allRows f i l && allRows g i l)
+unfolding allRows
+rows-both f g i [] = refl
+rows-both f g i (x ∷ l) = ap (λ t. (f i x && g i x) && t) (rows-both f g (suc i) l) ∙ swap (f i x) (g i x) (allRows f (suc i) l) (allRows g (suc i) l)
+  where
+    swap : (a b c d : Bool) → ((a && b) && (c && d)) ≡ ((a && c) && (b && d))
+    swap false b c d = refl
+    swap true false true d = refl
+    swap true false false d = refl
+    swap true true c d = refl
+
+-- tests that agree on every row
+pub rows-agree : {A : Type 0} (f g : ℕ → A → Bool) (k : ℕ) (l : List A) → ((i : ℕ) (x : A) → i < k + length l → f i x ≡ g i x) → allRows f k l ≡ allRows g k l
+unfolding allRows
+rows-agree f g k [] same = refl
+rows-agree f g k (x ∷ l) same = ap (λ b. b && allRows f (suc k) l) (same k x (omega arith)) ∙ ap (λ b. g k x && b) (rows-agree f g (suc k) l (λ i y h. same i y (omega arith)))
+
+module _ {A : Type 0} (u : A → Bool) (f : A → A → Bool) (l : List A) where
+  drop-tail : (k : ℕ) (x : A) (t : List A) → drop k l ≡ x ∷ t → drop (k + 1) l ≡ t
+  drop-tail k x t e = sym (drop-drop 1 k l) ∙ ap (λ y. drop 1 y) e
+
+  pairs-from : (k : ℕ) (t : List A) → drop k l ≡ t → allPairs u f t ≡ allRows (later u f l) k t
+  unfolding allRows allPairs
+  pairs-from k [] e = refl
+  pairs-from k (x ∷ t) e =
+      ap (λ y. (not (u x) || all (f x) y) && allPairs u f t) (sym (drop-tail k x t e)) ∙ ap (λ b. later u f l k x && b) (pairs-from (suc k) t (ap (λ (j : ℕ). drop j l) (sym (add-one k)) ∙ drop-tail k x t e))
+
+  pub pairs-rows : allPairs u f l ≡ allRows (later u f l) 0 l
+  pairs-rows = pairs-from 0 l refl
+
+-- ---- those that are kept
+
+all-kept : {A B : Type 0} (u : A → Bool) (g : A → B) (p : B → Bool) (l : List A) → all p (map g (keep u l)) ≡ all (λ a. not (u a) || p (g a)) l
+unfolding all keep
+all-kept u g p [] = refl
+all-kept u g p (a ∷ l) = go (u a) (all-kept u g p l)
+  where
+    go : (b : Bool) → all p (map g (keep u l)) ≡ all (λ x. not (u x) || p (g x)) l → all p (map g (cond b (a ∷ keep u l) (keep u l))) ≡ ((not b || p (g a)) && all (λ x. not (u x) || p (g x)) l)
+    go true e = ap (λ t. p (g a) && t) e
+    go false e = e
+
+pub pairs-kept : {A B : Type 0} (u : A → Bool) (g : A → B) (f : B → B → Bool) (l : List A) → allPairs (λ b. true) f (map g (keep u l)) ≡ allPairs u (λ x y. not (u y) || f (g x) (g y)) l
+unfolding allPairs keep
+pairs-kept u g f [] = refl
+pairs-kept u g f (a ∷ l) = go (u a) (pairs-kept u g f l)
+  where
+    go : (b : Bool) → allPairs (λ x. true) f (map g (keep u l)) ≡ allPairs u (λ x y. not (u y) || f (g x) (g y)) l → allPairs (λ x. true) f (map g (cond b (a ∷ keep u l) (keep u l))) ≡ ((not b || all (λ y. not (u y) || f (g a) (g y)) l) && allPairs u (λ x y. not (u y) || f (g x) (g y)) l)
+    go true e = ap (λ t. t && allPairs (λ x. true) f (map g (keep u l))) (all-kept u g (f (g a)) l) ∙ ap (λ t. all (λ y. not (u y) || f (g a) (g y)) l && t) e
+    go false e = e

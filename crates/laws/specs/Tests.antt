@@ -1,8 +1,8 @@
 -- Tests that tell propositions: comparisons, connectives, every row of a table, every two rows.
 use mathlib.Core.Bool.{Bool, true, not, _&&_, _||_}
 use mathlib.Core.List.{List, [], _∷_}
-use Prim.Native.Nat.{ℕ, suc, _<_}
-use lib.ListN.{length, getD}
+use Prim.Native.Nat.{ℕ, suc, _+_, _<_}
+use lib.ListN.{length, getD, drop}
 use Rattle.laws.specs.Lists.{all}
 
 -- a test of every row, with its number; the list's first row is row i
@@ -18,6 +18,10 @@ Rows d l P = (i : ℕ) → i < length l → P i (getD l i d)
 unfoldable pub allPairs : {A : Type 0} → (A → Bool) → (A → A → Bool) → List A → Bool
 allPairs u f [] = true
 allPairs u f (x ∷ l) = (not (u x) || all (f x) l) && allPairs u f l
+
+-- what `allPairs` asks of row i: a test of it with every later row
+abbrev pub later : {A : Type 0} → (A → Bool) → (A → A → Bool) → List A → ℕ → A → Bool
+later u f l i x = not (u x) || all (f x) (drop (i + 1) l)
 
 -- "every two rows of a table"
 abbrev pub Pairs : {A : Type 0} → A → List A → (A → Type 0) → (A → A → Type 0) → Type 0

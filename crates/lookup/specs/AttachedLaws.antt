@@ -1,24 +1,26 @@
 -- Laws of `Attached`: a process's attached regions, in list order: how many there are, which slot stands where, and the search for one at an address.
 use mathlib.Core.Path.{_≡_, refl, ap, sym, _∙_}
-use mathlib.Core.Bool.{Bool, true, false}
-use mathlib.Core.List.{List, [], _∷_}
-use Prim.Native.Nat.{ℕ, zero, suc, _+_, _-_, _*_, _≤_, _<_}
-use native.Mathlib.Nat.{le-of-suc-le-suc, not-suc-le-zero}
+use mathlib.Core.Bool.{Bool, true, false, cond}
+use mathlib.Core.List.{List}
+use Prim.Native.Nat.{ℕ, _+_, _-_, _*_, _≤_, _<_}
 use native.Mathlib.Omega.{arith}
-use native.Mathlib.Numerals.{add-one}
-use lib.ListN.{length, getD, take, drop, drop-of-length-le, List·getD-eq-default}
-use lib.Seq.{drop-cons, length-take-le, take-all}
+use lib.ListN.{length, getD, take, List·getD-eq-default}
+use lib.Seq.{length-take-le, take-all}
 use lib.Dec.{ltb}
 use borrow.Author.Tests.{ltb-true, ltb-false, lt-ltb, le-ltb, le-leb, lt-leb, eq-eqb, ne-eqb}
 use Rattle.model.specs.declared.Process.{Process}
 use Rattle.model.specs.declared.Region.{Region}
+use Rattle.model.specs.declared.Found.{Found}
 use Rattle.model.specs.declared.Found.the-variants.{At, Nothing}
+use Rattle.laws.specs.LoopLaws.{Remains, loop-found, loop-more, loop-none}
 use Rattle.laws.specs.Lists.{part}
 use Rattle.model.specs.Layout.{machine}
 use Rattle.model.specs.Machine.{Machine, noProcess, noRegion, regionAt, orderOf}
 use Rattle.model.specs.Lookup.{firstSlot, contains}
-use Rattle.lookup.specs.LookupsLaws.{part-length, part-at, regions-length, order-length}
+use Rattle.laws.specs.ListsLaws.{part-length, part-at}
+use Rattle.lookup.specs.LookupsLaws.{regions-length, order-length}
 use Rattle.lookup.specs.Attached.{usedAt}
+use Rattle.laws.specs.FirstRowsLaws.{taken-at}
 
 -- whether the region in a slot of a process holds an address
 abbrev pub holdsAt : Machine → ℕ → ℕ → ℕ → Bool
@@ -61,12 +63,6 @@ module _ (w : List ℕ) (p : ℕ) (h : p < 8) (q : Process) (read : q ≡ getD (
   attached-all l =
       sym (ap (λ (x : Process). length (take (x .attached) (part 64 p (machine w .order)))) (sym read) ∙ ap (λ x. length x) (take-all (q .attached) (part 64 p (machine w .order)) (rw places-length (omega arith))) ∙ places-length w p h)
 
-pub take-at : {A : Type 0} (n : ℕ) (l : List A) (i : ℕ) (d : A) → i < length (take n l) → getD (take n l) i d ≡ getD l i d
-take-at zero l i d h = absurd (not-suc-le-zero h)
-take-at (suc n) [] i d h = refl
-take-at (suc n) (x ∷ l) zero d h = refl
-take-at (suc n) (x ∷ l) (suc i) d h = take-at n l i d (le-of-suc-le-suc h)
-
 -- the slot at place i of list order
 pub order-slot :
     (w : List ℕ) (p n : ℕ)
@@ -78,27 +74,25 @@ pub order-slot :
     → s ≡ getD (orderOf (machine w) p) i 0
 unfolding orderOf
 order-slot w p n c l i s h e =
-    e ∙ sym (take-at (getD (machine w .processes) p noProcess .attached) (part 64 p (machine w .order)) i 0 (rw c at h) ∙ part-at (machine w .order) 64 p i 0 (omega arith))
+    e ∙ sym (taken-at (getD (machine w .processes) p noProcess .attached) (part 64 p (machine w .order)) i 0 (rw c at h) ∙ part-at (machine w .order) 64 p i 0 (omega arith))
 
 -- a search that has passed i of a list of slots has only the rest to look at
 abbrev pub Looked : (ℕ → Bool) → List ℕ → ℕ → Type 0
-Looked f l i = (i ≤ length l) × (firstSlot f l ≡ firstSlot f (drop i l))
+Looked f l i = (i ≤ length l) × Remains (firstSlot f) l i (firstSlot f l)
 
 module _ (f : ℕ → Bool) (l : List ℕ) (n : ℕ) (sized : n ≡ length l) (i : ℕ) (s : Looked f l i) where
+  -- slot x is the first, or those past it say
+  abbrev slot-by : Bool → ℕ → List ℕ → Found
+  slot-by b x t = cond b (At x) (firstSlot f t)
+
   pub look-found : i < n → (x : ℕ) → x ≡ getD l i 0 → f x ≡ true → At x ≡ firstSlot f l
   unfolding firstSlot
-  look-found h x e p = sym (s .1 ∙ here ∙ ap (λ (y : ℕ). At y) (sym e))
-    where
-      here : firstSlot f (drop i l) ≡ At (getD l i 0)
-      here = rw (drop-cons l i 0 (rw sized at h), ap f (sym e) ∙ p)
+  look-found h x e p = loop-found (firstSlot f) l i (firstSlot f l) (s .1) (omega arith) 0 x e (At x) (λ t. ap (λ (b : Bool). slot-by b x t) p)
 
   pub look-more : i < n → (x : ℕ) → x ≡ getD l i 0 → f x ≡ false → Looked f l (i + 1)
   unfolding firstSlot
-  look-more h x e p = (omega arith, s .1 ∙ later ∙ ap (λ (j : ℕ). firstSlot f (drop j l)) (sym (add-one i)))
-    where
-      later : firstSlot f (drop i l) ≡ firstSlot f (drop (suc i) l)
-      later = rw (drop-cons l i 0 (rw sized at h), ap f (sym e) ∙ p)
+  look-more h x e p = (omega arith, loop-more (firstSlot f) l i (firstSlot f l) (s .1) (omega arith) 0 x e (firstSlot f) (λ t. ap (λ (b : Bool). slot-by b x t) p))
 
   pub look-all : n ≤ i → Nothing ≡ firstSlot f l
   unfolding firstSlot
-  look-all h = sym (s .1 ∙ ap (λ x. firstSlot f x) (drop-of-length-le l {i = i} (rw sized at h)))
+  look-all h = loop-none (firstSlot f) l i (firstSlot f l) (s .1) (omega arith)

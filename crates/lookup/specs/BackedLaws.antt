@@ -4,7 +4,7 @@ use mathlib.Core.Bool.{Bool, true, false, _&&_, cond}
 use mathlib.Core.List.{List}
 use Prim.Native.Nat.{ℕ, _+_, _-_, _≤_, _<_}
 use native.Mathlib.Omega.{arith}
-use lib.ListN.{length, getD, List·getD-eq-default}
+use lib.ListN.{getD, List·getD-eq-default}
 use lib.Dec.{ltb}
 use borrow.Author.Tests.{eq-eqb, ne-eqb, lt-ltb, le-ltb, ltb-true, ltb-false}
 use Rattle.model.specs.declared.Region.{Region}
@@ -14,14 +14,13 @@ use Rattle.model.specs.declared.Backed.{Backed}
 use Rattle.model.specs.declared.Backed.the-variants.{ByEntry, ByRange, Unbacked}
 use Rattle.model.specs.declared.Found.{Found}
 use Rattle.model.specs.declared.Found.the-variants.{At, Nothing}
-use Rattle.laws.specs.RowsLaws.{rows-length}
 use Rattle.model.specs.Layout.{machine}
 use Rattle.model.specs.Machine.{Machine, noEntry, noBacking, regionAt, rowOf}
 use Rattle.model.specs.Lookup.{isRanged}
 use Rattle.model.specs.Backing.{backingAt, entryFor, backing}
 use Rattle.lookup.specs.Lookups.{entryOf}
-use Rattle.lookup.specs.LookupsLaws.{entries-length}
-use Rattle.lookup.specs.FoundRowLaws.{first-found}
+use Rattle.lookup.specs.LookupsLaws.{entries-length, backings-length}
+use Rattle.model.specs.FoundRowLaws.{first-found}
 use Rattle.lookup.specs.Backed.{byEntry, pagesPast, byRange, elseBy}
 
 -- "the page entry if any, else the range"
@@ -37,10 +36,6 @@ module _ (m : Machine) (p s page : ℕ) where
   pub backing-by : (x : Backed) → x ≡ byEntry m (entryFor m (rowOf p s) page) → (r : Region) → r ≡ regionAt m p s → (y : Backed) → y ≡ byRange m r page → elseBy x y ≡ backing m p s page
   backing-by x entry r row y range =
       ap (λ (u : Backed). elseBy u y) entry ∙ ap (λ (u : Backed). elseBy (byEntry m (entryFor m (rowOf p s) page)) u) (range ∙ ap (λ (u : Region). byRange m u page) row) ∙ backing-is
-
-backings-length : (w : List ℕ) → length (machine w .backings) ≡ 256
-unfolding machine
-backings-length w = rows-length _ 256
 
 -- past the last row no backing starts
 pub no-backing : (w : List ℕ) (f : ℕ) → 256 ≤ f → noBacking ≡ backingAt (machine w) f

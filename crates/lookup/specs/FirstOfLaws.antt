@@ -15,6 +15,7 @@ use Rattle.model.specs.Layout.{machine}
 use Rattle.model.specs.Machine.{noProcess}
 use Rattle.model.specs.Lookup.{isOpen}
 use Rattle.model.specs.Answers.{firstOf}
+use Rattle.model.specs.VisitLaws.{first-yes}
 use Rattle.lookup.specs.LookupsLaws.{processes-length}
 
 -- the first test is true, or it is not and the others decide
@@ -41,9 +42,7 @@ no-refusal {r} e = let z : _≡_ {A = ℕ} 0 1 = cc in omega arith
 
 -- where nothing refuses, the first test is false and nothing else refuses
 pub first-passed : (b : Bool) (r : Refusal) (l : List (Bool × Refusal)) → Yes ≡ firstOf ((b, r) ∷ l) → (b ≡ false) × (Yes ≡ firstOf l)
-unfolding firstOf
-first-passed true r l e = absurd (no-refusal e)
-first-passed false r l e = (refl, e)
+first-passed b r l e = let p = first-yes b r l (sym e) in (p .0, sym (p .1))
 
 -- ---- an open process
 

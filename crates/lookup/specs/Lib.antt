@@ -3,7 +3,6 @@ pub mod Named
 pub mod NamedLaws
 pub mod NamedSlotLaws
 pub mod ScanLaws
-pub mod FoundRowLaws
 pub mod Lookups
 pub mod LookupsLaws
 pub mod Attached

@@ -2,21 +2,20 @@
 use mathlib.Core.Path.{_≡_, sym, _∙_}
 use mathlib.Core.Bool.{Bool, false, cond}
 use mathlib.Core.List.{List}
-use Prim.Native.Nat.{ℕ, _+_, _*_, _≤_, _<_}
+use Prim.Native.Nat.{ℕ, _+_, _*_, _<_}
 use native.Mathlib.Omega.{arith}
-use lib.ListN.{length, getD, drop, length-drop}
-use lib.Seq.{length-take-le, getD-take, getD-drop}
+use lib.ListN.{length, getD}
 use lib.Dec.{eqb}
 use borrow.Author.Tests.{eq-eqb, ne-eqb}
 use Rattle.model.specs.declared.Process.{Process}
 use Rattle.model.specs.declared.Region.{Region}
 use Rattle.model.specs.declared.Entry.{Entry}
-use Rattle.laws.specs.Lists.{part}
 use Rattle.laws.specs.RowsLaws.{rows-length}
 use Rattle.model.specs.Layout.{machine}
 use Rattle.model.specs.Machine.{noRegion}
 use Rattle.model.specs.Lookup.{regionsOf}
 use Rattle.lookup.specs.Lookups.{entryOf}
+use Rattle.laws.specs.ListsLaws.{part-length, part-at}
 
 abbrev pub closed : Process → Bool
 closed q = eqb (q .opened) 0
@@ -54,15 +53,6 @@ backings-length w = rows-length _ 256
 pub files-length : (w : List ℕ) → length (machine w .files) ≡ 8
 unfolding machine
 files-length w = rows-length _ 8
-
--- a process's part of a table: as long as it is to be, and row i of it is row p * n + i of the table
-pub part-length : {A : Type 0} (l : List A) (n p : ℕ) → p * n + n ≤ length l → length (part n p l) ≡ n
-unfolding part
-part-length l n p h = length-take-le n (drop (p * n) l) (rw length-drop (omega arith))
-
-pub part-at : {A : Type 0} (l : List A) (n p i : ℕ) (d : A) → i < n → getD (part n p l) i d ≡ getD l (p * n + i) d
-unfolding part
-part-at l n p i d h = getD-take n (drop (p * n) l) i d h ∙ getD-drop (p * n) l i d
 
 pub slots-length : (w : List ℕ) (p : ℕ) → p < 8 → length (regionsOf (machine w) p) ≡ 64
 slots-length w p h = part-length (machine w .regions) 64 p (rw regions-length (omega arith))

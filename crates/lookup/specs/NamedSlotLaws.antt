@@ -5,12 +5,13 @@ use mathlib.Core.List.{List, [], _∷_}
 use Prim.Native.Nat.{ℕ, zero, suc, _<_, zero-le, suc-le-suc}
 use native.Mathlib.Omega.{arith}
 use lib.ListN.{length, getD}
-use Rattle.model.specs.declared.Found.the-variants.{At, Nothing}
+use Rattle.model.specs.declared.Found.the-variants.{At}
 use Rattle.model.specs.Machine.{orderOf, regionAt}
 use Rattle.model.specs.Layout.{machine}
 use Rattle.model.specs.Lookup.{firstSlot, regionFor, contains}
 use Rattle.model.specs.Sound.{Sound}
 use Rattle.model.specs.RecordLaws.{sound-tells}
+use Rattle.model.specs.LookupLaws.{never-found, same-slot}
 use Rattle.lookup.specs.LookupsLaws.{processes-length}
 use Rattle.model.specs.Answers.{firstOf}
 use Rattle.model.specs.Refusals.{regionRefusals, slotAt}
@@ -24,20 +25,14 @@ use Rattle.lookup.specs.NamedLaws.{named-slot, region-yes}
 pub sound-of : {w : List ℕ} (k : SoundWords w) → Sound (stateOf w (k .frames) (k .files))
 sound-of k = sound-tells _ .yes (k .sound)
 
-At-injective : {i j : ℕ} → At i ≡ At j → i ≡ j
-At-injective {i} {j} e = cc
-
-never-at : {i : ℕ} → Nothing ≡ At i → ⊥
-never-at {i} e = let z : _≡_ {A = ℕ} 0 1 = cc in omega arith
-
 -- a slot that is found is one of the list
 found-below : (f : ℕ → Bool) (l : List ℕ) (n : ℕ) → ((i : ℕ) → i < length l → getD l i 0 < n) → (s : ℕ) → firstSlot f l ≡ At s → s < n
 unfolding firstSlot
-found-below f [] n h s e = absurd (never-at e)
+found-below f [] n h s e = absurd (never-found e)
 found-below f (x ∷ l) n h s e = go (f x) e (found-below f l n (λ i k. h (suc i) (suc-le-suc k)) s)
   where
     go : (b : Bool) → cond b (At x) (firstSlot f l) ≡ At s → (firstSlot f l ≡ At s → s < n) → s < n
-    go true p ih = let same = At-injective p in let small = h zero (suc-le-suc zero-le) in omega arith
+    go true p ih = let same = same-slot p in let small = h zero (suc-le-suc zero-le) in omega arith
     go false p ih = ih p
 
 pub slot-small : (w : List ℕ) → SoundWords w → (p a s : ℕ) → p < 8 → At s ≡ regionFor (machine w) p a → s < 64

@@ -14,7 +14,8 @@ use Rattle.model.specs.declared.Found.{Found}
 use Rattle.model.specs.declared.Found.the-variants.{At, Nothing}
 use Rattle.model.specs.Machine.{noEntry}
 use Rattle.model.specs.Lookup.{rowFound}
-use Rattle.model.specs.LookupLaws.{never-found, same-slot, both-true}
+use Rattle.model.specs.LookupLaws.{never-found, same-slot}
+use Rattle.laws.specs.BoolLaws.{both-true}
 use Rattle.lookup.specs.NextEntry.{entryFrom, notAfter, comesFirst, nearer, nextFrom, nextEntry}
 
 -- ---- the test of an entry

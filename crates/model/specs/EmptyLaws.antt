@@ -1,9 +1,8 @@
 -- The empty machine is sound: whatever the frames and files that start accepts.
 use mathlib.Core.Path.{_≡_, refl, ap, sym, _∙_}
-use mathlib.Core.Bool.{Bool, true, false, not, _&&_, _||_, cond, true≢false}
-use mathlib.Core.List.{List, [], _∷_}
+use mathlib.Core.Bool.{Bool, true, false, not, _&&_, cond}
+use mathlib.Core.List.{List}
 use Prim.Native.Nat.{ℕ, zero, suc, _+_, _-_, _/_, _%_, _≤_, _<_}
-use native.Mathlib.Nat.{le-of-suc-le-suc, not-suc-le-zero}
 use native.Mathlib.Omega.{arith}
 use lib.ListN.{length, getD, take, replicate, List·getD-eq-default}
 use lib.Dec.{ltb, leb}
@@ -12,7 +11,7 @@ use Rattle.laws.specs.TellsLaws.{tells-both}
 use Rattle.answers.specs.declared.Refusal.the-variants.{BadTable}
 use Rattle.model.specs.declared.File.{File}
 use Rattle.model.specs.declared.Done.the-variants.{Yes, No}
-use Rattle.laws.specs.Lists.{pad, keep, upFrom, first}
+use Rattle.laws.specs.Lists.{pad, upFrom, first}
 use Rattle.laws.specs.TestLaws.{tells-all, tells-le, tells-rows}
 use Rattle.model.specs.Machine.{State, withMachine, emptyMachine, noFile, noBacking, noRegion, noEntry}
 use Rattle.model.specs.Answers.{fine, firstOf}
@@ -23,6 +22,8 @@ use Rattle.model.specs.SoundLaws.{r1-tells, r3-tells, r4-tells, r5-tells
 use Rattle.model.specs.RecordLaws.{process-tells, ordered-tells, paged-tells, region-tells, entry-tells, onceAPage-tells, onePage-tells, free-backing-tells}
 use Rattle.model.specs.Refusals.{badLengths, startRefusals}
 use Rattle.model.specs.Calls as calls
+use Rattle.laws.specs.ListsLaws.{keep-all, up-length, pad-length, pad-at}
+use Rattle.laws.specs.BoolLaws.{or-none}
 
 -- ---- no backing holds a frame
 
@@ -39,19 +40,9 @@ in-none f g zero k = refl
 in-none f g (suc n) zero = refl
 in-none f g (suc n) (suc k) = rw (never f g) (in-none f (g + 1) n k)
 
-keep-all : {A : Type 0} (f : A → Bool) → ((x : A) → f x ≡ true) → (l : List A) → keep f l ≡ l
-unfolding keep
-keep-all f h [] = refl
-keep-all f h (x ∷ l) = rw (h x) (ap (λ t. x ∷ t) (keep-all f h l))
-
 free-all : (n k : ℕ) → freeFrames n (take n (replicate k noBacking)) ≡ upFrom 0 n
 unfolding freeFrames
 free-all n k = keep-all _ (λ f. ap not (in-none f 0 n k)) (upFrom 0 n)
-
-up-length : (a n : ℕ) → length (upFrom a n) ≡ n
-unfolding upFrom
-up-length a zero = refl
-up-length a (suc n) = ap suc (up-length (a + 1) n)
 
 up-first : (n : ℕ) → first n (upFrom 0 n) ≡ 0
 unfolding upFrom
@@ -59,24 +50,6 @@ up-first zero = refl
 up-first (suc n) = refl
 
 -- ---- the files' rows
-
-pad-length : {A : Type 0} (n : ℕ) (d : A) (l : List A) → length (pad n d l) ≡ n
-unfolding pad
-pad-length zero d l = refl
-pad-length (suc n) d [] = ap suc (pad-length n d [])
-pad-length (suc n) d (x ∷ l) = ap suc (pad-length n d l)
-
-pad-at : {A : Type 0} (n : ℕ) (d : A) (l : List A) (i : ℕ) → i < n → getD (pad n d l) i d ≡ getD l i d
-unfolding pad
-pad-at zero d l i h = absurd (not-suc-le-zero h)
-pad-at (suc n) d [] zero h = refl
-pad-at (suc n) d [] (suc i) h = pad-at n d [] i (le-of-suc-le-suc h)
-pad-at (suc n) d (x ∷ l) zero h = refl
-pad-at (suc n) d (x ∷ l) (suc i) h = pad-at n d l i (le-of-suc-le-suc h)
-
-or-false : (a b : Bool) → (a || b) ≡ false → (a ≡ false) × (b ≡ false)
-or-false true b e = absurd (true≢false e)
-or-false false b e = (refl, e)
 
 module _ (s : State) (files : List File) where
   abbrev n : ℕ
@@ -133,9 +106,9 @@ module _ (s : State) (files : List File) where
       never-yes : No BadTable ≡ Yes → ⊥
       never-yes h = let z : _≡_ {A = ℕ} 0 1 = cc in omega arith
   started false p e =
-      let a = or-false _ _ p in
-      let b = or-false _ _ (a .1) in
-      let c = or-false _ _ (b .1) in
+      let a = or-none _ _ p in
+      let b = or-none _ _ (a .1) in
+      let c = or-none _ _ (b .1) in
       empty-sound (eqb-true _ _ (not-false _ (a .0))) (ltb-false _ _ (b .0)) (ltb-false _ _ (c .0))
       (tells-all noFile _ (λ f. (f .readable ≤ 1) × (f .offset + f .len ≤ length (s .bytes))) (λ f. tells-both (tells-le (f .readable) 1) (tells-le (f .offset + f .len) (length (s .bytes)))) files .yes (not-false _ (c .1)))
 

@@ -39,6 +39,7 @@ pub mod RefusalLaws
 pub mod EmptyLaws
 pub mod SettledLaws
 pub mod LookupLaws
+pub mod FoundRowLaws
 pub mod MachineLaws
 pub mod MappedBelowLaws
 pub mod VisitLaws

@@ -7,7 +7,7 @@ use lib.Dec.{eqb, ltb, leb}
 use Rattle.model.specs.declared.Region.{Region}
 use Rattle.model.specs.declared.Found.{Found}
 use Rattle.model.specs.declared.Found.the-variants.{At, Nothing}
-use Rattle.laws.specs.Lists.{part, among}
+use Rattle.laws.specs.Lists.{part, among, count}
 use Rattle.model.specs.Machine.{Machine, processAt, regionAt, orderOf}
 
 -- the first of some slots that passes a test
@@ -19,11 +19,6 @@ firstSlot f (s ∷ l) = let rest = firstSlot f l in cond (f s) (At s) rest
 unfoldable pub firstRow : {A : Type 0} → (A → Bool) → List A → ℕ → Found
 firstRow f [] i = Nothing
 firstRow f (x ∷ l) i = let rest = firstRow f l (i + 1) in cond (f x) (At i) rest
-
--- how many rows pass a test
-unfoldable pub count : {A : Type 0} → (A → Bool) → List A → ℕ
-count f [] = 0
-count f (x ∷ l) = let rest = count f l in cond (f x) (rest + 1) rest
 
 abbrev pub isOpen : Machine → ℕ → Bool
 isOpen m p = eqb (processAt m p .opened) 1

@@ -1,8 +1,8 @@
 -- What the look-ups find, and that `covered` is document 01's sentence: every address of the range lies in an attached region.
 use mathlib.Core.Path.{_≡_, refl, sym, subst}
-use mathlib.Core.Bool.{Bool, true, false, _&&_, _||_, cond, true≢false, false≢true}
+use mathlib.Core.Bool.{Bool, true, false, _||_, cond, false≢true}
 use mathlib.Core.List.{List, [], _∷_}
-use Prim.Native.Nat.{ℕ, zero, suc, _+_, _≤_, _<_, zero-le}
+use Prim.Native.Nat.{ℕ, zero, suc, _≤_, _<_}
 use native.Mathlib.Omega.{arith}
 use lib.ListN.{length}
 use lib.Dec.{eqb, ltb, leb}
@@ -11,17 +11,11 @@ use Rattle.laws.specs.Tells.{Tells}
 use Rattle.laws.specs.TellsLaws.{tells-of}
 use Rattle.model.specs.declared.Found.{Found}
 use Rattle.model.specs.declared.Found.the-variants.{At, Nothing}
-use Rattle.laws.specs.Lists.{any, among}
+use Rattle.laws.specs.Lists.{any, among, count}
 use Rattle.model.specs.Machine.{Machine, regionAt, orderOf}
-use Rattle.model.specs.Lookup.{firstSlot, count, contains, spanEnd, regionFor, coveredFrom, covered}
-
-pub clash : {A : Type 0} {b : Bool} → b ≡ true → b ≡ false → A
-clash {b = true} p q = absurd (true≢false q)
-clash {b = false} p q = absurd (false≢true p)
-
-pub both-true : (a b : Bool) → (a && b) ≡ true → (a ≡ true) × (b ≡ true)
-both-true true b e = (refl, e)
-both-true false b e = absurd (false≢true e)
+use Rattle.model.specs.Lookup.{firstSlot, contains, spanEnd, regionFor, coveredFrom, covered}
+use Rattle.laws.specs.BoolLaws.{clash, both-true, or-right}
+use Rattle.laws.specs.CountLaws.{count-least, count-most, count-fewer}
 
 pub never-found : {i : ℕ} → Nothing ≡ At i → ⊥
 never-found {i} e = let z : _≡_ {A = ℕ} 0 1 = cc in omega arith
@@ -38,11 +32,7 @@ first-found f (t ∷ l) s e = go (f t) refl e (first-found f l s)
   where
     go : (b : Bool) → f t ≡ b → cond b (At t) (firstSlot f l) ≡ At s → (firstSlot f l ≡ At s → (f s ≡ true) × (among s l ≡ true)) → (f s ≡ true) × ((eqb s t || any (eqb s) l) ≡ true)
     go true p q ih = (subst (λ (x : ℕ). f x ≡ true) (same-slot q) p, rw (eq-eqb s t (sym (same-slot q))) refl)
-    go false p q ih = (ih q .0, or-right (eqb s t) (ih q .1))
-      where
-        or-right : (a : Bool) {b : Bool} → b ≡ true → (a || b) ≡ true
-        or-right true h = refl
-        or-right false h = h
+    go false p q ih = (ih q .0, or-right (eqb s t) _ (ih q .1))
 
 pub first-none : (f : ℕ → Bool) (l : List ℕ) → firstSlot f l ≡ Nothing → (s : ℕ) → among s l ≡ true → f s ≡ false
 unfolding firstSlot any
@@ -53,53 +43,6 @@ first-none f (t ∷ l) e s h = go (f t) refl e (eqb s t) refl h (first-none f l)
     go true p q c i k ih = absurd (never-found (sym q))
     go false p q true i k ih = subst (λ (x : ℕ). f x ≡ false) (sym (eqb-true s t i)) p
     go false p q false i k ih = ih q s k
-
--- ---- counts
-
-pub count-least : (f : ℕ → Bool) (l : List ℕ) (s : ℕ) → among s l ≡ true → f s ≡ true → 1 ≤ count f l
-unfolding count any
-count-least f [] s h p = absurd (false≢true h)
-count-least f (t ∷ l) s h p = go (f t) refl (eqb s t) refl h (count-least f l s)
-  where
-    go : (b : Bool) → f t ≡ b → (c : Bool) → eqb s t ≡ c → (c || any (eqb s) l) ≡ true → (among s l ≡ true → f s ≡ true → 1 ≤ count f l) → 1 ≤ cond b (count f l + 1) (count f l)
-    go true q c i k ih = omega arith
-    go false q true i k ih = clash (subst (λ (x : ℕ). f x ≡ true) (eqb-true s t i) p) q
-    go false q false i k ih = ih k p
-
-pub count-most : (f : ℕ → Bool) (l : List ℕ) → count f l ≤ length l
-unfolding count
-count-most f [] = zero-le
-count-most f (t ∷ l) = go (f t) (count-most f l)
-  where
-    go : (b : Bool) → count f l ≤ length l → cond b (count f l + 1) (count f l) ≤ suc (length l)
-    go true h = omega arith
-    go false h = omega arith
-
-module _ (f g : ℕ → Bool) (more : (s : ℕ) → f s ≡ true → g s ≡ true) where
-  pub count-more : (l : List ℕ) → count f l ≤ count g l
-  unfolding count
-  count-more [] = zero-le
-  count-more (t ∷ l) = go (f t) refl (g t) refl (count-more l)
-    where
-      go : (b : Bool) → f t ≡ b → (c : Bool) → g t ≡ c → count f l ≤ count g l → cond b (count f l + 1) (count f l) ≤ cond c (count g l + 1) (count g l)
-      go true p true q h = omega arith
-      go true p false q h = clash (more t p) q
-      go false p true q h = omega arith
-      go false p false q h = h
-
-  -- fewer where one passes the second test and not the first
-  pub count-fewer : (l : List ℕ) (s : ℕ) → among s l ≡ true → g s ≡ true → f s ≡ false → count f l < count g l
-  unfolding count any
-  count-fewer [] s h p q = absurd (false≢true h)
-  count-fewer (t ∷ l) s h p q = go (f t) refl (g t) refl (eqb s t) refl h (count-more l) (count-fewer l s)
-    where
-      go : (b : Bool) → f t ≡ b → (c : Bool) → g t ≡ c → (d : Bool) → eqb s t ≡ d → (d || any (eqb s) l) ≡ true → count f l ≤ count g l → (among s l ≡ true → g s ≡ true → f s ≡ false → count f l < count g l) → cond b (count f l + 1) (count f l) < cond c (count g l + 1) (count g l)
-      go true i true j true k h m ih = clash i (subst (λ (x : ℕ). f x ≡ false) (eqb-true s t k) q)
-      go true i true j false k h m ih = let x = ih h p q in omega arith
-      go true i false j d k h m ih = clash (more t i) j
-      go false i true j d k h m ih = omega arith
-      go false i false j true k h m ih = clash (subst (λ (x : ℕ). g x ≡ true) (eqb-true s t k) p) j
-      go false i false j false k h m ih = ih h p q
 
 -- ---- covers
 

@@ -3,10 +3,9 @@ use mathlib.Core.Path.{_≡_, refl, ap, _∙_}
 use mathlib.Core.Bool.{Bool, true, false, cond}
 use mathlib.Core.List.{List, [], _∷_}
 use Prim.Native.Nat.{ℕ, zero, suc, _-_, _*_, _≤_, _<_}
-use native.Mathlib.Nat.{le-of-suc-le-suc, not-suc-le-zero}
 use native.Mathlib.Omega.{arith}
 use lib.ListN.{length, getD, set, take, length-take}
-use lib.Seq.{getD-set-same, length-take-le, take-at, drop-at}
+use lib.Seq.{getD-set-same}
 use lib.Dec.{leb}
 use Rattle.model.specs.declared.Process.{Process}
 use Rattle.model.specs.declared.Mapping.{Mapping}
@@ -16,25 +15,7 @@ use Rattle.laws.specs.Lists.{part, putPart, pad}
 use Rattle.model.specs.Machine.{Machine, processAt, orderOf, mappedOf, withMapped, withOrder, attachedOf, mappedCount, noProcess, noMapping}
 use Rattle.model.specs.Backing.{backingAt, withBacking, withBackings, claim, letGo, addEntry}
 use Rattle.model.specs.Fault.{reEntry}
-
--- ---- parts of a table
-
-pub part-put : {A : Type 0} (n p : ℕ) (new l : List A) → length new ≡ n → p * n ≤ length l → part n p (putPart n p new l) ≡ new
-unfolding part putPart
-part-put n p new l h k = ap (take n) (drop-at (take (p * n) l) _ (p * n) (length-take-le (p * n) l k)) ∙ take-at new _ n h
-
-pub pad-length : {A : Type 0} (n : ℕ) (d : A) (l : List A) → length (pad n d l) ≡ n
-unfolding pad
-pad-length zero d l = refl
-pad-length (suc n) d [] = ap suc (pad-length n d [])
-pad-length (suc n) d (x ∷ l) = ap suc (pad-length n d l)
-
-pub take-pad : {A : Type 0} (n : ℕ) (d : A) (l : List A) → length l ≤ n → take (length l) (pad n d l) ≡ l
-unfolding pad
-take-pad zero d [] h = refl
-take-pad zero d (x ∷ l) h = absurd (not-suc-le-zero h)
-take-pad (suc n) d [] h = refl
-take-pad (suc n) d (x ∷ l) h = ap (λ t. x ∷ t) (take-pad n d l (le-of-suc-le-suc h))
+use Rattle.laws.specs.ListsLaws.{part-put, pad-length, take-pad}
 
 -- ---- the page table and the list of a process, read after they were written
 

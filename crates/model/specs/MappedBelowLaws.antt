@@ -7,38 +7,24 @@ use native.Mathlib.Omega.{arith}
 use lib.ListN.{length}
 use lib.Dec.{eqb, ltb}
 use borrow.Author.Tests.{ltb-true, ltb-false, eqb-true, lt-ltb}
+use Rattle.laws.specs.CountLaws.{count-most, count-more}
 use Rattle.model.specs.declared.Mapping.{Mapping}
 use Rattle.model.specs.declared.Translated.the-variants.{Mapped, NotMapped}
-use Rattle.laws.specs.Lists.{keep}
-use Rattle.model.specs.Lookup.{count}
+use Rattle.laws.specs.Lists.{keep, count}
 use Rattle.model.specs.Paging.{mapping, translate, mapPage, unmapPage, remapWhere}
 
 -- the mapped pages below page k
 abbrev pub below : ℕ → List Mapping → ℕ
 below k l = count (λ x. ltb (x .page .0) k) l
 
-never-mapped : {x : Mapping} → NotMapped ≡ Mapped x → ⊥
+pub never-mapped : {x : Mapping} → NotMapped ≡ Mapped x → ⊥
 never-mapped {x} e = let z : _≡_ {A = ℕ} 0 1 = cc in omega arith
 
 pub below-most : (k : ℕ) (l : List Mapping) → below k l ≤ length l
-unfolding count
-below-most k [] = zero-le
-below-most k (x ∷ l) = go (ltb (x .page .0) k) (below-most k l)
-  where
-    go : (b : Bool) → below k l ≤ length l → cond b (below k l + 1) (below k l) ≤ suc (length l)
-    go true h = omega arith
-    go false h = omega arith
+below-most k l = count-most (λ x. ltb (x .page .0) k) l
 
 pub below-next : (k : ℕ) (l : List Mapping) → below k l ≤ below (suc k) l
-unfolding count
-below-next k [] = zero-le
-below-next k (x ∷ l) = go (ltb (x .page .0) k) refl (ltb (x .page .0) (suc k)) refl (below-next k l)
-  where
-    go : (b : Bool) → ltb (x .page .0) k ≡ b → (c : Bool) → ltb (x .page .0) (suc k) ≡ c → below k l ≤ below (suc k) l → cond b (below k l + 1) (below k l) ≤ cond c (below (suc k) l + 1) (below (suc k) l)
-    go true p true q h = omega arith
-    go true p false q h = let y = ltb-true (x .page .0) k p in let z = ltb-false (x .page .0) (suc k) q in absurd (omega arith)
-    go false p true q h = omega arith
-    go false p false q h = h
+below-next k l = count-more (λ x. ltb (x .page .0) k) (λ x. ltb (x .page .0) (suc k)) (λ x e. let h = ltb-true (x .page .0) k e in lt-ltb (x .page .0) (suc k) (omega arith)) l
 
 -- a page that is mapped counts from the next one on
 pub below-here : (page : ℕ) (l : List Mapping) (x : Mapping) → translate l page ≡ Mapped x → suc (below page l) ≤ below (suc page) l

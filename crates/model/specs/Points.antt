@@ -9,7 +9,9 @@ use Rattle.laws.specs.Lists.{all}
 use Rattle.laws.specs.TestLaws.{tells-all, tells-bool}
 use Rattle.model.specs.Open.{everything}
 use Rattle.model.specs.PointTable.{Row, Holds, holdsb}
-use Rattle.model.specs.PointTableLaws.{and-both, all-both, holds-told}
+use Rattle.laws.specs.BoolLaws.{and-both}
+use Rattle.laws.specs.ListsLaws.{all-both}
+use Rattle.model.specs.PointTableLaws.{holds-told}
 use Rattle.model.specs.PointRows.{p1-6, p7, p8, p9, p10, p10′, p11, p12, unstarted}
 use Rattle.model.specs.RangeRows.{rangePage, populates, opened}
 

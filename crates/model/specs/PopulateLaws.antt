@@ -12,13 +12,15 @@ use Rattle.model.specs.declared.Found.{Found}
 use Rattle.model.specs.declared.Found.the-variants.{At, Nothing}
 use Rattle.model.specs.declared.Done.{Done}
 use Rattle.model.specs.declared.Done.the-variants.{Yes, No}
-use Rattle.laws.specs.Lists.{any, among}
+use Rattle.laws.specs.Lists.{any, among, count}
 use Rattle.model.specs.Machine.{Machine, State, regionAt, rowOf, orderOf, mappedOf, noRegion}
 use Rattle.model.specs.Answers.{Try, fine, andThen}
-use Rattle.model.specs.Lookup.{count, spanEnd, regionFor}
+use Rattle.model.specs.Lookup.{spanEnd, regionFor}
 use Rattle.model.specs.Paging.{pageStart}
 use Rattle.model.specs.Populate.{lower, lowestAbove, nextStart, populatePage, pageIn, everyPage, visit}
-use Rattle.model.specs.LookupLaws.{first-found, first-none, count-fewer, count-more, clash, both-true}
+use Rattle.model.specs.LookupLaws.{first-found, first-none}
+use Rattle.laws.specs.CountLaws.{count-fewer, count-more}
+use Rattle.laws.specs.BoolLaws.{clash, both-true, or-right}
 use Rattle.model.specs.MappedBelowLaws.{below, below-most, below-next}
 use Rattle.model.specs.VisitLaws.{Fits, went-page}
 
@@ -30,10 +32,6 @@ pub record Lowest (g : ℕ → ℕ) (l : List ℕ) (n y : ℕ) : Type 0 where
   pub slot : ℕ
   pub listed : among slot l ≡ true
   pub is : g slot ≡ y
-
-or-right : (a : Bool) {b : Bool} → b ≡ true → (a || b) ≡ true
-or-right true h = refl
-or-right false h = h
 
 abbrev Spec : (ℕ → ℕ) → List ℕ → ℕ → Found → Type 0
 Spec g l n Nothing = (s : ℕ) → among s l ≡ true → g s ≤ n
@@ -54,7 +52,7 @@ first-listed t l = rw (eq-eqb t t refl)
 
 rest-listed : (t : ℕ) (l : List ℕ) (s : ℕ) → among s l ≡ true → among s (t ∷ l) ≡ true
 unfolding any
-rest-listed t l s h = or-right (eqb s t) h
+rest-listed t l s h = or-right (eqb s t) _ h
 
 module _ (g : ℕ → ℕ) (t : ℕ) (l : List ℕ) (n : ℕ) where
   spec-none : ((s : ℕ) → among s l ≡ true → g s ≤ n) → (b : Bool) → ltb n (g t) ≡ b → Spec g (t ∷ l) n (cond b (At (g t)) Nothing)

@@ -11,7 +11,7 @@ use Rattle.laws.specs.Lists.{any, among}
 use Rattle.model.specs.Machine.{Machine, State, processAt, regionAt, rowOf, orderOf}
 use Rattle.model.specs.Sound.{Sound}
 use Rattle.model.specs.Populate.{everyPage, visits, nothingToDo, lastAddress, corePopulate}
-use Rattle.model.specs.LookupLaws.{count-most}
+use Rattle.laws.specs.CountLaws.{count-most}
 use Rattle.model.specs.MachineLaws.{mapped-length}
 use Rattle.model.specs.VisitLaws.{Fits}
 use Rattle.model.specs.PopulateLaws.{Aligned, visit-every}

@@ -8,6 +8,7 @@ use native.Mathlib.Omega.{arith}
 use lib.ListN.{length, getD}
 use lib.Dec.{leb}
 use borrow.Author.Tests.{leb-true}
+use Rattle.laws.specs.BoolLaws.{both-true}
 use Rattle.answers.specs.declared.Refusal.{Refusal}
 use Rattle.answers.specs.declared.Refusal.the-variants.{BadTable, NoProcess, BadAddress, BadRange, BadFlags, NoFile, NoRegion, NoSpace, SegmentReserved, InvalidSplitPoint, NotReserved, NotAccessible, NotWritable, OutOfMemory, ReadFailed, MapFailed, UnsupportedRegion, EagerBacking, Shared, InUse, TableFull, Denied}
 use Rattle.answers.specs.Number.{numberOf}
@@ -37,20 +38,12 @@ rising l = risingFrom 1 l
 
 -- ---- the first is the lowest
 
-and-first : (a b : Bool) → (a && b) ≡ true → a ≡ true
-and-first true b e = refl
-and-first false b e = absurd (false≢true e)
-
-and-second : (a b : Bool) → (a && b) ≡ true → b ≡ true
-and-second true b e = e
-and-second false b e = absurd (false≢true e)
-
 at-least : (n : ℕ) (l : List Test) (i : ℕ) → risingFrom n l ≡ true → i < length l → n ≤ numberOf (getD l i (true, BadTable) .1)
 at-least n [] i e h = absurd (not-suc-le-zero h)
-at-least n (t ∷ l) zero e h = leb-true n (numberOf (t .1)) (and-first _ _ e)
+at-least n (t ∷ l) zero e h = leb-true n (numberOf (t .1)) (both-true _ _ e .0)
 at-least n (t ∷ l) (suc i) e h =
-    let a = leb-true n (numberOf (t .1)) (and-first _ _ e) in
-    let b = at-least (numberOf (t .1)) l i (and-second (leb n (numberOf (t .1))) _ e) (le-of-suc-le-suc h) in
+    let a = leb-true n (numberOf (t .1)) (both-true _ _ e .0) in
+    let b = at-least (numberOf (t .1)) l i (both-true (leb n (numberOf (t .1))) _ e .1) (le-of-suc-le-suc h) in
     omega arith
 
 same-number : {r q : Refusal} → No r ≡ No q → numberOf r ≡ numberOf q
@@ -60,13 +53,13 @@ same-number {r} {q} e = ap numberOf (let x : r ≡ q = cc in x)
 pub first-lowest : (n : ℕ) (l : List Test) (r : Refusal) → risingFrom n l ≡ true → firstOf l ≡ No r → (i : ℕ) → i < length l → getD l i (true, BadTable) .0 ≡ true → numberOf r ≤ numberOf (getD l i (true, BadTable) .1)
 unfolding firstOf
 first-lowest n [] r e f i h t = absurd (not-suc-le-zero h)
-first-lowest n (x ∷ l) r e f i h t = go (x .0) refl i f h t (first-lowest (numberOf (x .1)) l r (and-second (leb n (numberOf (x .1))) _ e))
+first-lowest n (x ∷ l) r e f i h t = go (x .0) refl i f h t (first-lowest (numberOf (x .1)) l r (both-true (leb n (numberOf (x .1))) _ e .1))
   where
     go : (b : Bool) → x .0 ≡ b → (i : ℕ) → cond b (No (x .1)) (firstOf l) ≡ No r → i < length (x ∷ l) → getD (x ∷ l) i (true, BadTable) .0 ≡ true → (firstOf l ≡ No r → (j : ℕ) → j < length l → getD l j (true, BadTable) .0 ≡ true → numberOf r ≤ numberOf (getD l j (true, BadTable) .1)) → numberOf r ≤ numberOf (getD (x ∷ l) i (true, BadTable) .1)
     go true p zero q k u ih = let y = same-number q in omega arith
     go true p (suc j) q k u ih =
         let y = same-number q in
-        let z = at-least (numberOf (x .1)) l j (and-second (leb n (numberOf (x .1))) _ e) (le-of-suc-le-suc k) in
+        let z = at-least (numberOf (x .1)) l j (both-true (leb n (numberOf (x .1))) _ e .1) (le-of-suc-le-suc k) in
         omega arith
     go false p zero q k u ih = absurd (false≢true (sym p ∙ u))
     go false p (suc j) q k u ih = ih q j (le-of-suc-le-suc k) u

@@ -11,7 +11,7 @@ use lib.Seq.{ext-getD}
 use lib.Dec.{ltb}
 use borrow.Author.Tests.{ltb-true, ltb-false}
 use Rattle.laws.specs.Rows.{rows}
-use Rattle.laws.specs.RowsLaws.{rows-at}
+use Rattle.laws.specs.RowsLaws.{row-same}
 use Rattle.model.specs.Layout.{wordCount, machine, processRow, regionRow, orderRow, mappingRow, entryRow, backingRow, poolRow, fileRow, processWords, regionWords, mappingWords, entryWords, backingWords, fileWords}
 
 -- a fact at 0, 1, .., k - 1
@@ -30,10 +30,6 @@ at-below P (suc k) a j h = go (at-below P k (a .0) j) (ℕ-discrete j k)
 -- the words of row i of a table at word b, k words a row, are the row's
 abbrev Reads : {A : Type 0} → (A → List ℕ) → (List ℕ → ℕ → A) → ℕ → ℕ → Type 0
 Reads words f b k = (w : List ℕ) (i : ℕ) → AllBelow (λ j. getD (words (f w i)) j 0 ≡ getD w (b + i * k + j) 0) k
-
--- equal tables have equal rows
-row-same : {A : Type 0} (f g : ℕ → A) (n i : ℕ) → i < n → rows f n ≡ rows g n → f i ≡ g i
-row-same f g n i h e = sym (rows-at f n i (f i) h) ∙ ap (λ l. getD l i (f i)) e ∙ rows-at g n i (f i) h
 
 -- .. and equal words: word j of row i
 word-same : {A : Type 0} (words : A → List ℕ) (f : List ℕ → ℕ → A) (b k n : ℕ) → Reads words f b k → (v w : List ℕ) → rows (f v) n ≡ rows (f w) n → (i j : ℕ) → i < n → j < k → getD v (b + i * k + j) 0 ≡ getD w (b + i * k + j) 0

@@ -17,10 +17,10 @@ use Rattle.model.specs.declared.Found.{Found}
 use Rattle.model.specs.declared.Found.the-variants.{At, Nothing}
 use Rattle.model.specs.declared.Backed.{Backed}
 use Rattle.model.specs.declared.Backed.the-variants.{ByEntry, ByRange, Unbacked}
-use Rattle.laws.specs.Lists.{part, keep, among, first}
+use Rattle.laws.specs.Lists.{part, keep, among, first, count}
 use Rattle.laws.specs.Tests.{Rows, Pairs}
 use Rattle.model.specs.Machine.{Machine, State, regionAt, orderOf, mappedOf, noProcess, noRegion, noMapping, noEntry, noBacking, noFile, userEnd, mostPins, processRows, entryRows, fileRows, frameRows}
-use Rattle.model.specs.Lookup.{regionsOf, contains, segmentEnd, pagesFor, isUsed, isShared, isRanged, count}
+use Rattle.model.specs.Lookup.{regionsOf, contains, segmentEnd, pagesFor, isUsed, isShared, isRanged}
 use Rattle.model.specs.Paging.{pageStart, isWritable, allFour}
 use Rattle.model.specs.Backing.{backing, backingAt, freeFrames}
 use Rattle.model.specs.Protect.{holdersBy}

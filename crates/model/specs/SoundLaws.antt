@@ -18,6 +18,7 @@ use Rattle.laws.specs.Tests.{Rows, allRows}
 use Rattle.laws.specs.TestLaws.{tells-eq, tells-le, tells-lt, tells-bool, tells-not, tells-or, tells-if, tells-unless, tells-as, tells-rows, tells-pairs}
 use Rattle.model.specs.Machine.{Machine, regionAt, mappedOf, noProcess, noRegion, noMapping, noBacking}
 use Rattle.model.specs.Lookup.{regionsOf, isUsed}
+use Rattle.model.specs.LookupLaws.{same-slot}
 use Rattle.model.specs.Paging.{isWritable}
 use Rattle.model.specs.Backing.{backing}
 use Rattle.model.specs.Protect.{holdersBy}
@@ -74,24 +75,21 @@ r3-tells m = backings-tell m _ _ (λ f b. tells-unless (tells-eq (b .len) 0) (co
 
 -- ---- R4 and R5
 
-At-injective : {i j : ℕ} → At i ≡ At j → i ≡ j
-At-injective {i} {j} e = cc
-
 same-found-tells : (a b : Found) → Tells (sameFound a b) (a ≡ b)
 same-found-tells Nothing Nothing = tells-of true (λ e. refl) (λ e. refl)
 same-found-tells Nothing (At j) = record { yes = λ e. absurd (mathlib.Core.Bool.false≢true e); no = λ e p. let z : _≡_ {A = ℕ} 0 1 = cc in omega arith }
 same-found-tells (At i) Nothing = record { yes = λ e. absurd (mathlib.Core.Bool.false≢true e); no = λ e p. let z : _≡_ {A = ℕ} 0 1 = cc in omega arith }
-same-found-tells (At i) (At j) = tells-as (λ e. ap At e) At-injective (tells-eq i j)
+same-found-tells (At i) (At j) = tells-as (λ e. ap At e) same-slot (tells-eq i j)
 
 -- something was found, and it has what its test tells
 tells-some : (g : ℕ → Bool) (P : ℕ → Type 0) → ((i : ℕ) → Tells (g i) (P i)) → (x : Found) → Tells (whenFound false g x) ((i : ℕ) × ((x ≡ At i) × P i))
 tells-some g P t Nothing = record { yes = λ e. absurd (mathlib.Core.Bool.false≢true e); no = λ e p. let h : Nothing ≡ At (p .0) = p .1 .0 in let z : _≡_ {A = ℕ} 0 1 = cc in omega arith }
-tells-some g P t (At i) = tells-as (λ p. (i, (refl, p))) (λ q. subst P (sym (At-injective (q .1 .0))) (q .1 .1)) (t i)
+tells-some g P t (At i) = tells-as (λ p. (i, (refl, p))) (λ q. subst P (sym (same-slot (q .1 .0))) (q .1 .1)) (t i)
 
 -- whatever was found has what its test tells
 tells-every : (g : ℕ → Bool) (P : ℕ → Type 0) → ((i : ℕ) → Tells (g i) (P i)) → (x : Found) → Tells (whenFound true g x) ((i : ℕ) → x ≡ At i → P i)
 tells-every g P t Nothing = tells-of true (λ e i h. let z : _≡_ {A = ℕ} 0 1 = cc in absurd (omega arith)) (λ p. refl)
-tells-every g P t (At i) = tells-as (λ p j e. subst P (At-injective e) p) (λ f. f i refl) (t i)
+tells-every g P t (At i) = tells-as (λ p j e. subst P (same-slot e) p) (λ f. f i refl) (t i)
 
 homed-tells : (m : Machine) (p : ℕ) (x : Mapping) → Tells (homedb m p x) (Homed m p x)
 unfolding homedb

@@ -22,7 +22,7 @@ use Rattle.model.specs.declared.Way.{Way}
 use Rattle.model.specs.declared.Way.the-variants.{Refuse, Already, Restore, Map, Copy, Fill}
 use Rattle.model.specs.declared.Done.{Done}
 use Rattle.model.specs.declared.Done.the-variants.{Yes, No}
-use Rattle.laws.specs.Lists.{putPart}
+use Rattle.laws.specs.ListsLaws.{pad-length, put-part-length}
 use Rattle.model.specs.Machine.{Machine, State, withMapped, mappedOf, orderOf, processAt, regionAt, rowOf}
 use Rattle.model.specs.Answers.{fine, firstOf, unless}
 use Rattle.model.specs.Lookup.{isShared}
@@ -50,10 +50,6 @@ never-no : {r : Refusal} → No r ≡ Yes → ⊥
 never-no {r} e = let z : _≡_ {A = ℕ} 0 1 = cc in omega arith
 
 -- the length of a table after a process's part was replaced
-put-length : (l new : List Mapping) (p : ℕ) → length new ≡ 128 → p * 128 + 128 ≤ length l → length (putPart 128 p new l) ≡ length l
-unfolding putPart
-put-length l new p e h = simp (lib.ListN.length-append, lib.ListN.length-take, lib.ListN.length-drop) (rw e (omega arith))
-
 module _ (m : Machine) (p page : ℕ) (f : Fits m p) where
   -- a page table written over books that are as before
   wrote : (n : Machine) → Books m n → (l : List Mapping) → length l ≤ 128 → suc (below page (mappedOf m p)) ≤ below (suc page) l → Went m (withMapped n p l) p page
@@ -77,7 +73,7 @@ module _ (m : Machine) (p page : ℕ) (f : Fits m p) where
       inside = rw length-set inside-n
 
       room : p * 128 + 128 ≤ length (withMapped n p l .mapped)
-      room = rw (put-length (n .mapped) _ p (Rattle.model.specs.MachineLaws.pad-length 128 _ l) room-n) room-n
+      room = rw (put-part-length 128 p _ (n .mapped) (pad-length 128 _ l) room-n) room-n
 
   same-books : Books m m
   same-books = record { processes = refl; regions = refl; order = refl; mapped = refl }
@@ -150,7 +146,7 @@ unmapped-moves m p slot page w e = rw e (go (isShared (regionAt m p slot)))
 
 -- ---- a page that does not refuse
 
-first-yes : (b : Bool) (r : Refusal) (l : List (Bool × Refusal)) → firstOf ((b, r) ∷ l) ≡ Yes → (b ≡ false) × (firstOf l ≡ Yes)
+pub first-yes : (b : Bool) (r : Refusal) (l : List (Bool × Refusal)) → firstOf ((b, r) ∷ l) ≡ Yes → (b ≡ false) × (firstOf l ≡ Yes)
 unfolding firstOf
 first-yes true r l e = absurd (never-no e)
 first-yes false r l e = (refl, e)

@@ -8,7 +8,8 @@ use Rattle.laws.specs.Lists.{all}
 use Rattle.laws.specs.TestLaws.{tells-all, tells-bool}
 use Rattle.model.specs.Open.{everything}
 use Rattle.model.specs.PointTable.{Row, Holds, holdsb}
-use Rattle.model.specs.PointTableLaws.{and-both, holds-told}
+use Rattle.laws.specs.BoolLaws.{and-both}
+use Rattle.model.specs.PointTableLaws.{holds-told}
 use Rattle.model.specs.PointRows.{unstarted}
 use Rattle.model.specs.RangeRows.{opened}
 use Rattle.model_points.specs.EdgeRows.{fileEnd, unreadable, carveFull, carveInUse, carveRange, detachedUnpin, cloneOrder, exactSize, rights, fork, broken, crowded}

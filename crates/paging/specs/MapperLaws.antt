@@ -18,13 +18,12 @@ use Rattle.model.specs.Machine.{Machine, State, processAt, mappedOf, withMapped
 use Rattle.model.specs.Sound.{Sound, Paged}
 use Rattle.model.specs.Paging.{translate, mapPage, unmapPage, unmapFrom}
 use Rattle.model.specs.MappedBelowLaws.{below, below-most}
-use Rattle.model.specs.Lookup.{isFound}
-use Rattle.model.specs.Fault.{isMapped}
+use Rattle.laws.specs.ListsLaws.{pad-take}
 use Rattle.paging.specs.Place.{place, rowFor, mappedAt, translateBy}
 use Rattle.paging.specs.PlaceLaws.{row-inside}
 use Rattle.paging.specs.ProcessRows.{rowsOf, withRows, withCount, rowPut, rowsTaken}
 use Rattle.paging.specs.ProcessRowsLaws.{rows-of-length, mapped-row, mapped-most, rows-put-same}
-use Rattle.paging.specs.PadLaws.{pad-take, put-in-pad, take-out-of-pad, set-in-pad}
+use Rattle.paging.specs.PadLaws.{put-in-pad, take-out-of-pad, set-in-pad}
 use Rattle.paging.specs.Order.{Rising}
 use Rattle.paging.specs.OrderLaws.{place-below, translate-by, stands-mapped, map-below, remapPage, remap-at, remap-missing, unmap-at, unmap-missing, below-mono, first-end, keep-region}
 use Rattle.paging.specs.Mapper.{mappedPages, inserted, takenOut, mapBy, unmapRow, unmapBy, reflag, remapRow, remapBy, firstPage, endPage, takenIf, unmapFromBy}
@@ -60,7 +59,7 @@ module _ (m : Machine) (p : ℕ) (w : WellPaged m p) where
   -- the rows are the mapped ones and free ones after them
   padded : rowsOf m p ≡ pad 128 noMapping (mappedOf m p)
   unfolding mappedOf rowsOf
-  padded = sym (ap (λ (k : ℕ). pad k noMapping (take (processAt m p .mapped) (part 128 p (m .mapped)))) (sym long) ∙ pad-take (part 128 p (m .mapped)) (processAt m p .mapped) (w .paged .free))
+  padded = sym (ap (λ (k : ℕ). pad k noMapping (take (processAt m p .mapped) (part 128 p (m .mapped)))) (sym long) ∙ pad-take noMapping (part 128 p (m .mapped)) (processAt m p .mapped) (w .paged .free))
 
   -- rows and a count put, where the rows are those of a list
   both-put : (rows l : List Mapping) (n : ℕ) → rows ≡ pad 128 noMapping l → n ≡ length l → withCount (withRows m p rows) p n ≡ withMapped m p l
@@ -92,15 +91,6 @@ module _ (m : Machine) (p : ℕ) (w : WellPaged m p) where
 
   pub translate-law : (page : ℕ) → translateBy (mappedOf m p) page ≡ translate (mappedOf m p) page
   translate-law page = translate-by (mappedOf m p) page rising
-
-  -- remap's answer: whether the page is mapped
-  pub found-law : (page : ℕ) → isFound (rowFor (mappedOf m p) page) ≡ isMapped (translate (mappedOf m p) page)
-  unfolding translateBy
-  found-law page = go (rowFor (mappedOf m p) page) ∙ ap isMapped (translate-law page)
-    where
-      go : (f : Found) → isFound f ≡ isMapped (mappedAt (mappedOf m p) f)
-      go (At i) = refl
-      go Nothing = refl
 
   pub map-law : (x : Mapping) → translate (mappedOf m p) (x .page .0) ≡ NotMapped → length (mappedOf m p) < 128 → mapBy m p x ≡ withMapped m p (mapPage (mappedOf m p) x)
   unfolding mapBy

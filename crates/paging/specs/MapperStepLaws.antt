@@ -14,9 +14,10 @@ use Rattle.model.specs.declared.Found.the-variants.{At, Nothing}
 use Rattle.model.specs.Layout.{wordCount, machine}
 use Rattle.model.specs.Machine.{Machine, mappedOf, noMapping}
 use Rattle.model.specs.Lookup.{isFound, pagesFor}
+use Rattle.lookup.specs.LookupsLaws.{mapped-length}
 use Rattle.paging.specs.Place.{place, rowFor}
 use Rattle.paging.specs.ProcessRows.{rowsOf, withRows, withCount, putRows, rowPut, rowsTaken}
-use Rattle.paging.specs.ProcessRowsLaws.{mapped-rows, rows-of-length, rowed-first, rowed-put}
+use Rattle.paging.specs.ProcessRowsLaws.{rows-of-length, rowed-first, rowed-put}
 use Rattle.paging.specs.PutRowsLaws.{put-length, put-front, raise-length, put-behind}
 use Rattle.paging.specs.Mapper.{mappedPages, inserted, takenOut, mapBy, unmapBy, reflag, remapBy, firstPage, endPage, unmapFromBy}
 
@@ -34,7 +35,7 @@ module _ (w : List ℕ) (p : ℕ) (h : p < 8) (sized : length w ≡ wordCount) w
     unfolding rowPut
     insert-done at n row k l a b c =
         let rows = rowsOf (machine w) p in
-        let long = rows-of-length (machine w) p h (mapped-rows w) in
+        let long = rows-of-length (machine w) p h (mapped-length w) in
         let raised = raise-length rows n at k (omega arith) ∙ long in
         rows-then-count u v x (λ t. putRows t (suc at) (slice at n t)) (λ t. set t at row) (n + 1) kept a raised still b (length-set (putRows rows (suc at) (slice at n rows)) at row ∙ raised) c
         ∙ ap (λ t. withCount (withRows (machine w) p t) p (n + 1)) (put-front rows at (slice at n rows) row (omega arith))
@@ -43,7 +44,7 @@ module _ (w : List ℕ) (p : ℕ) (h : p < 8) (sized : length w ≡ wordCount) w
     unfolding rowsTaken
     take-out-done from to n left k l q e a b c =
         let rows = rowsOf (machine w) p in
-        let long = rows-of-length (machine w) p h (mapped-rows w) in
+        let long = rows-of-length (machine w) p h (mapped-length w) in
         let moved = length-slice to n rows (omega arith) in
         let freed = length-replicate (n - left) noMapping in
         let lowered = put-length rows from (slice to n rows) (omega arith) ∙ long in

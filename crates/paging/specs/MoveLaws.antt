@@ -10,8 +10,9 @@ use lib.Seq.{slice, length-slice, paste, paste-zero, paste-suc}
 use Rattle.model.specs.declared.Mapping.{Mapping}
 use Rattle.model.specs.Layout.{wordCount, machine}
 use Rattle.model.specs.Machine.{noMapping}
+use Rattle.lookup.specs.LookupsLaws.{mapped-length}
 use Rattle.paging.specs.ProcessRows.{rowsOf, withRows, putRows}
-use Rattle.paging.specs.ProcessRowsLaws.{mapped-rows, rows-of-length, Rowed, rowed-first, rowed-rows, rowed-put}
+use Rattle.paging.specs.ProcessRowsLaws.{rows-of-length, Rowed, rowed-first, rowed-rows, rowed-put}
 use Rattle.paging.specs.PutRowsLaws.{raise-first, raise-more, paste-all, paste-past}
 
 -- the rows at the start
@@ -19,7 +20,7 @@ abbrev atStart : List ℕ → ℕ → List Mapping
 atStart w p = rowsOf (machine w) p
 
 start-length : (w : List ℕ) (p : ℕ) → p < 8 → length (atStart w p) ≡ 128
-start-length w p h = rows-of-length (machine w) p h (mapped-rows w)
+start-length w p h = rows-of-length (machine w) p h (mapped-length w)
 
 -- ---- up, the highest first: the rows from i up to `to` are moved
 

@@ -15,10 +15,10 @@ use Rattle.model.specs.declared.Mapping.{Mapping}
 use Rattle.model.specs.declared.Found.the-variants.{At, Nothing}
 use Rattle.model.specs.declared.Translated.{Translated}
 use Rattle.model.specs.declared.Translated.the-variants.{Mapped, NotMapped}
-use Rattle.laws.specs.Lists.{keep}
+use Rattle.laws.specs.Lists.{keep, count}
 use Rattle.model.specs.Machine.{noMapping}
 use Rattle.laws.specs.TestLaws.{tells-eq, tells-le, tells-lt, tells-as}
-use Rattle.model.specs.Lookup.{count, spanEnd}
+use Rattle.model.specs.Lookup.{spanEnd}
 use Rattle.model.specs.Paging.{pageStart, mapping, mapsIn, translate, mapPage, unmapPage, remapWhere}
 use Rattle.model.specs.MappedBelowLaws.{below, below-most}
 use Rattle.paging.specs.Place.{pageAt, middle, halve, place, standsAt, rowFor, mappedAt, translateBy}

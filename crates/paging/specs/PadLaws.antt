@@ -1,37 +1,21 @@
 -- Rows that are some mapped ones and free ones after them: read, and what a row put in, rows taken out or one changed make of them.
-use mathlib.Core.Path.{_≡_, refl, ap, sym, _∙_}
-use mathlib.Core.List.{List, [], _∷_, _++_, append-assoc}
-use Prim.Native.Nat.{ℕ, zero, suc, _+_, _-_, _≤_, _<_, zero-le, suc-le-suc}
+use mathlib.Core.Path.{_≡_, ap, sym, _∙_}
+use mathlib.Core.List.{List, _∷_, _++_, append-assoc}
+use Prim.Native.Nat.{ℕ, suc, _+_, _-_, _≤_, _<_}
 use native.Mathlib.Omega.{arith}
 use lib.ListN.{length, set, take, drop, replicate, length-append, length-take, length-drop, length-set, length-replicate, replicate-append-replicate}
 use lib.Seq.{slice, take-append-le, drop-append-add, drop-at, take-at, set-append-left}
 use Rattle.model.specs.declared.Mapping.{Mapping}
 use Rattle.laws.specs.Lists.{pad}
-use Rattle.laws.specs.Tests.{Rows}
+use Rattle.laws.specs.ListsLaws.{pad-rest}
 use Rattle.model.specs.Machine.{noMapping}
 use Rattle.paging.specs.ProcessRows.{putRows, rowPut, rowsTaken}
 
 abbrev free : ℕ → List Mapping
 free n = replicate n noMapping
 
-pad-free : (k : ℕ) → pad k noMapping [] ≡ free k
-unfolding pad
-pad-free zero = refl
-pad-free (suc k) = ap (λ t. noMapping ∷ t) (pad-free k)
-
 pad-is : (k : ℕ) (l : List Mapping) (j : ℕ) → k ≡ length l + j → pad k noMapping l ≡ l ++ free j
-unfolding pad
-pad-is k [] j e = let same : k ≡ j = omega arith in pad-free k ∙ ap free same
-pad-is zero (x ∷ l) j e = absurd (omega arith)
-pad-is (suc k) (x ∷ l) j e = ap (λ t. x ∷ t) (pad-is k l j (omega arith))
-
--- the first n rows, where the rest are free
-pub pad-take : (rows : List Mapping) (n : ℕ) → Rows noMapping (drop n rows) (λ i x. x ≡ noMapping) → pad (length rows) noMapping (take n rows) ≡ rows
-unfolding pad
-pad-take [] zero f = refl
-pad-take [] (suc n) f = refl
-pad-take (x ∷ rows) zero f = let first = sym (f zero (suc-le-suc zero-le)) in λ i. first i ∷ pad-take rows zero (λ j h. f (suc j) (suc-le-suc h)) i
-pad-take (x ∷ rows) (suc n) f = ap (λ t. x ∷ t) (pad-take rows n f)
+pad-is k l j e = let rest : k - length l ≡ j = omega arith in sym (pad-rest k noMapping l (omega arith)) ∙ ap (λ (n : ℕ). l ++ free n) rest
 
 module _ (l : List Mapping) where
   pub put-in-pad : (k at n : ℕ) (x : Mapping) → n ≡ length l → at ≤ n → n < k → rowPut (pad k noMapping l) at n x ≡ pad k noMapping (take at l ++ (x ∷ drop at l))

@@ -1,25 +1,20 @@
 -- Laws of a process's rows: their number, the mapped ones among them, and what is read after rows or the count were put.
-use mathlib.Core.Path.{_≡_, refl, ap, sym, _∙_}
-use mathlib.Core.List.{List, [], _∷_, _++_}
-use Prim.Native.Nat.{ℕ, zero, suc, _+_, _*_, _≤_, _<_}
-use native.Mathlib.Nat.{le-of-suc-le-suc, not-suc-le-zero}
+use mathlib.Core.Path.{_≡_, ap, sym, _∙_}
+use mathlib.Core.List.{List}
+use Prim.Native.Nat.{ℕ, _+_, _*_, _≤_, _<_}
 use native.Mathlib.Omega.{arith}
-use lib.ListN.{length, getD, take, drop, set, length-take, take-append-drop}
-use lib.Seq.{length-take-le, take-all, take-at, drop-at, drop-drop, take-set-lt, take-set-le, drop-set-lt, drop-set-add}
+use lib.ListN.{length, getD, take, set, length-take}
+use lib.Seq.{length-take-le, take-all}
+use Rattle.laws.specs.ListsLaws.{put-same, put-set, part-put, part-length, part-at, put-part-again}
+use Rattle.laws.specs.FirstRowsLaws.{taken-at}
 use Rattle.model.specs.declared.Process.{Process}
 use Rattle.model.specs.declared.Mapping.{Mapping}
-use Rattle.laws.specs.Lists.{part, putPart}
-use Rattle.laws.specs.RowsLaws.{rows-length}
+use Rattle.laws.specs.Lists.{part}
 use Rattle.model.specs.Layout.{wordCount, machine}
 use Rattle.model.specs.Machine.{Machine, processAt, noMapping, mappedOf}
-use Rattle.model.specs.MachineLaws.{part-put}
-use Rattle.lookup.specs.LookupsLaws.{part-length, part-at}
 use Rattle.rows.specs.With.{withMappedTable}
+use Rattle.lookup.specs.LookupsLaws.{mapped-length}
 use Rattle.paging.specs.ProcessRows.{rowsOf, withRows}
-
-pub mapped-rows : (w : List ℕ) → length (machine w .mapped) ≡ 1024
-unfolding machine
-mapped-rows w = rows-length _ 1024
 
 pub rows-of-length : (m : Machine) (p : ℕ) → p < 8 → length (m .mapped) ≡ 1024 → length (rowsOf m p) ≡ 128
 unfolding rowsOf
@@ -43,15 +38,9 @@ module _ (m : Machine) (p : ℕ) (h : p < 8) (sized : length (m .mapped) ≡ 102
       let long = rows-of-length m p h sized in
       sym (ap (λ (x : Process). length (take (x .mapped) (part 128 p (m .mapped)))) (sym read) ∙ ap (λ x. length x) (take-all (q .mapped) (part 128 p (m .mapped)) (rw long (omega arith))) ∙ long)
 
-taken-row : {A : Type 0} (n : ℕ) (l : List A) (i : ℕ) (d : A) → i < length (take n l) → getD (take n l) i d ≡ getD l i d
-taken-row zero l i d h = absurd (not-suc-le-zero h)
-taken-row (suc n) [] i d h = refl
-taken-row (suc n) (x ∷ l) zero d h = refl
-taken-row (suc n) (x ∷ l) (suc i) d h = taken-row n l i d (le-of-suc-le-suc h)
-
 pub mapped-row : (m : Machine) (p i : ℕ) → i < length (mappedOf m p) → getD (rowsOf m p) i noMapping ≡ getD (mappedOf m p) i noMapping
 unfolding mappedOf rowsOf
-mapped-row m p i h = sym (taken-row (processAt m p .mapped) (part 128 p (m .mapped)) i noMapping h)
+mapped-row m p i h = sym (taken-at (processAt m p .mapped) (part 128 p (m .mapped)) i noMapping h)
 
 pub mapped-most : (m : Machine) (p : ℕ) → p < 8 → length (m .mapped) ≡ 1024 → length (mappedOf m p) ≤ 128
 unfolding mappedOf rowsOf
@@ -63,45 +52,19 @@ pub rows-of-put : (m : Machine) (p : ℕ) (rows : List Mapping) → p < 8 → le
 unfolding rowsOf withRows
 rows-of-put m p rows h sized long = part-put 128 p rows (m .mapped) long (rw sized (omega arith))
 
--- rows put twice are the ones put last
-put-part-again : {A : Type 0} (n p : ℕ) (a b l : List A) → length a ≡ n → p * n + n ≤ length l → putPart n p b (putPart n p a l) ≡ putPart n p b l
-unfolding putPart
-put-part-again n p a b l long h =
-    let front : List _ = take (p * n) l in
-    let back : List _ = drop (p * n + n) l in
-    let k : length front ≡ p * n = length-take-le (p * n) l (omega arith) in
-    let both : drop (p * n + n) (front ++ (a ++ back)) ≡ back = sym (drop-drop n (p * n) (front ++ (a ++ back))) ∙ ap (drop n) (drop-at front (a ++ back) (p * n) k) ∙ drop-at a back n long in
-    ap (λ t. t ++ (b ++ drop (p * n + n) (front ++ (a ++ back)))) (take-at front (a ++ back) (p * n) k) ∙ ap (λ t. front ++ (b ++ t)) both
-
 pub rows-put-again : (m : Machine) (p : ℕ) (a b : List Mapping) → p < 8 → length (m .mapped) ≡ 1024 → length a ≡ 128 → withRows (withRows m p a) p b ≡ withRows m p b
 unfolding withRows
 rows-put-again m p a b h sized long = ap (λ t. withMappedTable m t) (put-part-again 128 p a b (m .mapped) long (rw sized (omega arith)))
 
 -- a process's own rows put change nothing
-put-part-same : {A : Type 0} (n p : ℕ) (l : List A) → putPart n p (part n p l) l ≡ l
-unfolding putPart part
-put-part-same n p l =
-    ap (λ t. take (p * n) l ++ (take n (drop (p * n) l) ++ t)) (sym (drop-drop n (p * n) l)) ∙ ap (λ t. take (p * n) l ++ t) (take-append-drop n (drop (p * n) l)) ∙ take-append-drop (p * n) l
-
 pub rows-put-same : (m : Machine) (p : ℕ) → withRows m p (rowsOf m p) ≡ m
 unfolding withRows rowsOf
-rows-put-same m p = ap (λ t. withMappedTable m t) (put-part-same 128 p (m .mapped))
+rows-put-same m p = ap (λ t. withMappedTable m t) (put-same 128 p (m .mapped))
 
 -- one row of the table set is one of the process's
-set-part : {A : Type 0} (n p i : ℕ) (x : A) (l : List A) → i < n → p * n + n ≤ length l → set l (p * n + i) x ≡ putPart n p (set (part n p l) i x) l
-unfolding putPart part
-set-part n p i x l h k =
-    let front = take-set-le (p * n) l (p * n + i) x (omega arith) in
-    let rest = drop-set-add (p * n) l i x in
-    let back = drop-set-lt (p * n + n) l (p * n + i) x (omega arith) in
-    sym (put-part-same n p (set l (p * n + i) x)) ∙ shape front rest back
-  where
-    shape : take (p * n) (set l (p * n + i) x) ≡ take (p * n) l → drop (p * n) (set l (p * n + i) x) ≡ set (drop (p * n) l) i x → drop (p * n + n) (set l (p * n + i) x) ≡ drop (p * n + n) l → putPart n p (part n p (set l (p * n + i) x)) (set l (p * n + i) x) ≡ take (p * n) l ++ (set (take n (drop (p * n) l)) i x ++ drop (p * n + n) l)
-    shape f r b = rw (f, r, b) (ap (λ t. take (p * n) l ++ (t ++ drop (p * n + n) l)) (take-set-lt n (drop (p * n) l) i x h))
-
 pub set-row : (m : Machine) (p i : ℕ) (x : Mapping) → p < 8 → i < 128 → length (m .mapped) ≡ 1024 → withMappedTable m (set (m .mapped) (p * 128 + i) x) ≡ withRows m p (set (rowsOf m p) i x)
 unfolding withRows rowsOf
-set-row m p i x h k sized = ap (λ t. withMappedTable m t) (set-part 128 p i x (m .mapped) k (rw sized (omega arith)))
+set-row m p i x h k sized = ap (λ t. withMappedTable m t) (sym (put-set 128 p (m .mapped) i x k))
 
 -- ---- what is known between calls that put rows of one process: the words' length, and the rows
 
@@ -112,17 +75,17 @@ pub record Rowed (m : Machine) (p : ℕ) (w : List ℕ) (rows : List Mapping) : 
 
 module _ (w₀ : List ℕ) (p : ℕ) (h : p < 8) where
   pub rowed-first : length w₀ ≡ wordCount → Rowed (machine w₀) p w₀ (rowsOf (machine w₀) p)
-  rowed-first s = record { sized = s; same = sym (rows-put-same (machine w₀) p); long = rows-of-length (machine w₀) p h (mapped-rows w₀) }
+  rowed-first s = record { sized = s; same = sym (rows-put-same (machine w₀) p); long = rows-of-length (machine w₀) p h (mapped-length w₀) }
 
   module _ (w : List ℕ) (rows : List Mapping) (k : Rowed (machine w₀) p w rows) where
     pub rowed-rows : rowsOf (machine w) p ≡ rows
-    rowed-rows = ap (λ m. rowsOf m p) (k .same) ∙ rows-of-put (machine w₀) p rows h (mapped-rows w₀) (k .long)
+    rowed-rows = ap (λ m. rowsOf m p) (k .same) ∙ rows-of-put (machine w₀) p rows h (mapped-length w₀) (k .long)
 
     -- other rows put in a call
     pub rowed-put : (v : List ℕ) (f : List Mapping → List Mapping) → length v ≡ length w → machine v ≡ withRows (machine w) p (f (rowsOf (machine w) p)) → length (f rows) ≡ 128 → Rowed (machine w₀) p v (f rows)
     rowed-put v f s e long =
         record {
           sized = s ∙ k .sized;
-          same = e ∙ ap (λ t. withRows (machine w) p (f t)) rowed-rows ∙ ap (λ m. withRows m p (f rows)) (k .same) ∙ rows-put-again (machine w₀) p rows (f rows) h (mapped-rows w₀) (k .long);
+          same = e ∙ ap (λ t. withRows (machine w) p (f t)) rowed-rows ∙ ap (λ m. withRows m p (f rows)) (k .same) ∙ rows-put-again (machine w₀) p rows (f rows) h (mapped-length w₀) (k .long);
           long = long;
         }

@@ -25,7 +25,7 @@ use Rattle.rows.specs.LentMemory.{stateOf, wordsAlone, DoesWords}
 use Rattle.lookup.specs.LookupsLaws.{processes-length, closed}
 use Rattle.lookup.specs.FirstOfLaws.{first-here, first-later, first-none, not-no, not-yes}
 use Rattle.rows.specs.GuardedLaws.{refused, granted}
-use Rattle.lookup.specs.FoundRowLaws.{first-found}
+use Rattle.model.specs.FoundRowLaws.{first-found}
 use Rattle.process.specs.Opening.{badArena}
 
 module _ (a size : ℕ) where

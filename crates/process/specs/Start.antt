@@ -4,7 +4,7 @@ use mathlib.Core.Bool.{Bool, not, _&&_, _||_, cond}
 use mathlib.Core.List.{List}
 use Prim.Native.Nat.{ℕ, _+_, _*_, _/_, _%_}
 use lib.ListN.{length, getD}
-use lib.Dec.{eqb, ltb, leb}
+use lib.Dec.{eqb, ltb}
 use Rattle.answers.specs.declared.Refusal.{Refusal}
 use Rattle.answers.specs.declared.Refusal.the-variants.{BadTable}
 use Rattle.model.specs.declared.File.{File}
@@ -16,6 +16,7 @@ use Rattle.model.specs.Layout.{wordCount}
 use Rattle.model.specs.Answers.{Try, leaving, refuse}
 use Rattle.model.specs.Calls as calls
 use Rattle.rows.specs.LentMemory.{stateOf}
+use Rattle.rows.specs.FileRow.{isLent}
 
 -- a file is three words: readable, offset, length
 unfoldable pub fileIn : List ℕ → ℕ → File
@@ -37,11 +38,8 @@ Starts words frames bytes files words' r = (startCall words frames bytes files �
 
 -- ---- the tests, over the lengths alone
 
-abbrev pub fileFits : ℕ → File → Bool
-fileFits n f = leb (f .readable) 1 && leb (f .offset + f .len) n
-
 abbrev pub unfit : List ℕ → ℕ → ℕ → Bool
-unfit files frames n = not (eqb (frames % 4096) 0) || (ltb 256 (frames / 4096) || (ltb 8 (length files / 3) || not (all (fileFits n) (filesOf files))))
+unfit files frames n = not (eqb (frames % 4096) 0) || (ltb 256 (frames / 4096) || (ltb 8 (length files / 3) || not (all (isLent n) (filesOf files))))
 
 abbrev pub badSizes : List ℕ → ℕ → ℕ → Bool
 badSizes files frames n = not (eqb (length files % 3) 0) || unfit files frames n

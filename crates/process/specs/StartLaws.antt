@@ -1,36 +1,38 @@
 -- Start, step by step: the lengths, the words all 0 read as tables, the files put, the empty machine.
 use mathlib.Core.Path.{_≡_, refl, ap, sym, _∙_}
 use mathlib.Core.Logic.{_≢_}
-use mathlib.Core.Bool.{Bool, true, false, not, _&&_, _||_, cond, true≢false}
-use mathlib.Core.List.{List, [], _∷_, _++_}
-use Prim.Native.Nat.{ℕ, zero, suc, _+_, _-_, _*_, _/_, _%_, _≤_, _<_}
-use native.Mathlib.Nat.{le-of-suc-le-suc, not-suc-le-zero}
+use mathlib.Core.Bool.{Bool, true, false, not, _&&_, _||_, cond}
+use mathlib.Core.List.{List, [], _++_}
+use Prim.Native.Nat.{ℕ, suc, _+_, _-_, _*_, _/_, _%_, _≤_, _<_}
+use native.Mathlib.Nat.{not-suc-le-zero}
 use native.Mathlib.Decide.{ℕ-discrete}
 use native.Mathlib.Numerals.{add-one}
 use native.Mathlib.Omega.{arith}
 use lib.ListN.{length, getD, set, take, drop, replicate, length-set, List·getD-eq-default}
 use lib.Seq.{paste, paste-zero, paste-suc, take-length, getD-set-same, getD-set-other}
-use lib.Dec.{eqb, ltb, leb}
-use borrow.Author.Tests.{eq-eqb, ne-eqb, lt-ltb, le-ltb, le-leb, lt-leb, leb-true, leb-false, ltb-true, ltb-false, not-false}
+use lib.Dec.{eqb, ltb}
+use borrow.Author.Tests.{eq-eqb, ne-eqb, lt-ltb, le-ltb, ltb-true, ltb-false, not-false}
+use Rattle.laws.specs.BoolLaws.{or-none}
 use Rattle.answers.specs.declared.Refusal.{Refusal}
 use Rattle.answers.specs.declared.Refusal.the-variants.{BadTable}
 use Rattle.model.specs.declared.File.{File}
 use Rattle.model.specs.declared.Pool.{Pool}
 use Rattle.model.specs.declared.Done.the-variants.{Yes, No}
 use Rattle.laws.specs.Lists.{all, pad}
-use Rattle.laws.specs.Tests.{allRows}
 use Rattle.laws.specs.Rows.{rows}
-use Rattle.laws.specs.RowsLaws.{rows-length, rows-at}
+use Rattle.laws.specs.RowsLaws.{rows-length, rows-at, same-rows}
 use Rattle.model.specs.Machine.{Machine, noProcess, noRegion, noMapping, noEntry, noBacking, noFile, State, emptyMachine, withMachine, withPool}
 use Rattle.model.specs.Layout.{wordCount, machine, processRow, regionRow, orderRow, mappingRow, entryRow, backingRow, poolRow, fileRow}
 use Rattle.model.specs.Answers.{firstOf, fine, leaving, refuse}
 use Rattle.model.specs.Refusals.{badLengths, startRefusals}
 use Rattle.model.specs.Calls as calls
+use Rattle.rows.specs.FileRow.{isLent}
 use Rattle.rows.specs.LentMemory.{stateOf}
 use Rattle.lookup.specs.LookupsLaws.{files-length}
 use Rattle.rows.specs.With.{withFiles, withFrameCount, withFileCount}
 use Rattle.lookup.specs.FirstOfLaws.{no-refusal}
-use Rattle.process.specs.Start.{fileIn, filesOf, startCall, Starts, fileFits, unfit, badSizes, Zeros}
+use Rattle.process.specs.Start.{fileIn, filesOf, startCall, Starts, unfit, badSizes, Zeros}
+use Rattle.laws.specs.ListsLaws.{fill-pad}
 
 -- ---- the list of files
 
@@ -41,32 +43,6 @@ files-number l = rows-length (fileIn l) (length l / 3)
 pub file-row : (l : List ℕ) (i : ℕ) (f : File) → i < length l / 3 → f ≡ fileIn l i → f ≡ getD (filesOf l) i noFile
 unfolding filesOf
 file-row l i f h e = e ∙ sym (rows-at (fileIn l) (length l / 3) i noFile h)
-
--- a test of every row, whatever its number
-pub all-rows : {A : Type 0} (f : A → Bool) (k : ℕ) (l : List A) → allRows (λ i x. f x) k l ≡ all f l
-unfolding allRows all
-all-rows f k [] = refl
-all-rows f k (x ∷ l) = ap (λ (b : Bool). f x && b) (all-rows f (suc k) l)
-
--- ---- whether a file fits
-
-module _ (n : ℕ) (f : File) where
-  pub unreadable : 1 < f .readable → false ≡ fileFits n f
-  unreadable h = rw (lt-leb (f .readable) 1 h) refl
-
-  pub too-long : n < f .len → false ≡ fileFits n f
-  too-long h = go (leb (f .readable) 1)
-    where
-      go : (b : Bool) → false ≡ (b && leb (f .offset + f .len) n)
-      go true = sym (lt-leb (f .offset + f .len) n (omega arith))
-      go false = refl
-
-  pub file-placed : f .readable ≤ 1 → f .len ≤ n → leb (f .offset) (n - f .len) ≡ fileFits n f
-  file-placed h k = rw (le-leb (f .readable) 1 h) (go (leb (f .offset) (n - f .len)) refl)
-    where
-      go : (b : Bool) → leb (f .offset) (n - f .len) ≡ b → b ≡ leb (f .offset + f .len) n
-      go true e = let low = leb-true (f .offset) (n - f .len) e in sym (le-leb (f .offset + f .len) n (omega arith))
-      go false e = let high = leb-false (f .offset) (n - f .len) e in sym (lt-leb (f .offset + f .len) n (omega arith))
 
 -- ---- the lengths, one by one
 
@@ -86,12 +62,8 @@ module _ (l : List ℕ) (frames n : ℕ) where
         pub many-files : 8 < length l / 3 → true ≡ badSizes l frames n
         many-files h = rw (eq-eqb (length l % 3) 0 whole, eq-eqb (frames % 4096) 0 framed, le-ltb 256 (frames / 4096) few, lt-ltb 8 (length l / 3) h) refl
 
-        pub some-files : length l / 3 ≤ 8 → (b : Bool) → b ≡ all (fileFits n) (filesOf l) → not b ≡ badSizes l frames n
+        pub some-files : length l / 3 ≤ 8 → (b : Bool) → b ≡ all (isLent n) (filesOf l) → not b ≡ badSizes l frames n
         some-files h b e = rw (eq-eqb (length l % 3) 0 whole, eq-eqb (frames % 4096) 0 framed, le-ltb 256 (frames / 4096) few, le-ltb 8 (length l / 3) h) (ap not e)
-
-or-false : (a b : Bool) → (a || b) ≡ false → (a ≡ false) × (b ≡ false)
-or-false true b e = absurd (true≢false e)
-or-false false b e = (refl, e)
 
 -- ---- words all 0
 
@@ -115,12 +87,6 @@ zero-all w i h z j = go (ltb j wordCount) refl
     go : (b : Bool) → ltb j wordCount ≡ b → getD w j 0 ≡ 0
     go true e = let low = ltb-true j wordCount e in z .1 j (omega arith)
     go false e = List·getD-eq-default w 0 {n = j} (rw (z .0) (ltb-false j wordCount e))
-
--- rows that are all the same
-same-rows : {A : Type 0} (f : ℕ → A) (d : A) → ((i : ℕ) → f i ≡ d) → (n : ℕ) → rows f n ≡ replicate n d
-unfolding rows
-same-rows f d h zero = refl
-same-rows f d h (suc n) = λ k. h zero k ∷ same-rows (λ i. f (suc i)) d (λ i. h (suc i)) n k
 
 -- .. read as tables they are the empty machine without frames and files
 module _ (w : List ℕ) (z : Zeros w) where
@@ -192,18 +158,6 @@ module _ (w₀ l : List ℕ) where
 
 -- ---- the empty machine
 
-blank-pad : {A : Type 0} (n : ℕ) (d : A) → replicate n d ≡ pad n d []
-unfolding pad
-blank-pad zero d = refl
-blank-pad (suc n) d = ap (λ t. d ∷ t) (blank-pad n d)
-
-fill-pad : {A : Type 0} (n : ℕ) (d : A) (l : List A) → length l ≤ n → l ++ drop (length l) (replicate n d) ≡ pad n d l
-unfolding pad
-fill-pad zero d [] h = refl
-fill-pad zero d (x ∷ l) h = absurd (not-suc-le-zero h)
-fill-pad (suc n) d [] h = blank-pad (suc n) d
-fill-pad (suc n) d (x ∷ l) h = ap (λ t. x ∷ t) (fill-pad n d l (le-of-suc-le-suc h))
-
 paste-pad : (n k : ℕ) (d : File) (l : List File) → k ≡ length l → length l ≤ n → paste (replicate n d) 0 l k ≡ pad n d l
 paste-pad n k d l e h =
     let here : 0 + k ≡ length l = omega arith in
@@ -235,7 +189,7 @@ module _ (w frames bytes l : List ℕ) where
   -- the model's test of the lengths
   unfit-lengths : badLengths s (filesOf l) ≡ unfit l (length frames) (length bytes)
   unfolding badLengths
-  unfit-lengths = ap (λ (n : ℕ). not (eqb (length frames % 4096) 0) || (ltb 256 (length frames / 4096) || (ltb 8 n || not (all (fileFits (length bytes)) (filesOf l))))) (files-number l)
+  unfit-lengths = ap (λ (n : ℕ). not (eqb (length frames % 4096) 0) || (ltb 256 (length frames / 4096) || (ltb 8 n || not (all (isLent (length bytes)) (filesOf l))))) (files-number l)
 
   started : (b : Bool) → unfit l (length frames) (length bytes) ≡ b → calls.start s (filesOf l) ≡ calls.decided (cond b (No BadTable) Yes) (λ (r : Refusal). No r) s (fine (withMachine s (emptyMachine (length frames / 4096) (filesOf l))))
   unfolding calls.start startRefusals firstOf
@@ -255,14 +209,14 @@ module _ (w frames bytes l : List ℕ) where
 
     pub good-start : badSizes l (length frames) (length bytes) ≡ false → (v : List ℕ) → machine v ≡ emptyMachine (length frames / 4096) (filesOf l) → Starts w frames bytes l v Yes
     good-start b v put =
-        let fits = or-false _ _ b in
+        let fits = or-none _ _ b in
         (whole true (not-false _ (fits .0)) ∙ started false (fits .1) ∙ ap (λ (m : Machine). fine (withMachine s m)) (sym put), λ q e. absurd (no-refusal e))
 
   -- files that fit are at most 8
   pub few-files : badSizes l (length frames) (length bytes) ≡ false → length l / 3 ≤ 8
   few-files b =
-      let files : Bool = ltb 8 (length l / 3) || not (all (fileFits (length bytes)) (filesOf l)) in
-      let one = or-false (not (eqb (length l % 3) 0)) (unfit l (length frames) (length bytes)) b in
-      let two = or-false (not (eqb (length frames % 4096) 0)) (ltb 256 (length frames / 4096) || files) (one .1) in
-      let three = or-false (ltb 256 (length frames / 4096)) files (two .1) in
-      ltb-false 8 (length l / 3) (or-false (ltb 8 (length l / 3)) (not (all (fileFits (length bytes)) (filesOf l))) (three .1) .0)
+      let files : Bool = ltb 8 (length l / 3) || not (all (isLent (length bytes)) (filesOf l)) in
+      let one = or-none (not (eqb (length l % 3) 0)) (unfit l (length frames) (length bytes)) b in
+      let two = or-none (not (eqb (length frames % 4096) 0)) (ltb 256 (length frames / 4096) || files) (one .1) in
+      let three = or-none (ltb 256 (length frames / 4096)) files (two .1) in
+      ltb-false 8 (length l / 3) (or-none (ltb 8 (length l / 3)) (not (all (isLent (length bytes)) (filesOf l))) (three .1) .0)

@@ -6,8 +6,9 @@ ghost use lib.Seq.{paste};
 ghost use Rattle.model.specs.Layout.{wordCount, machine};
 ghost use Rattle.laws.specs.Lists.{all};
 ghost use Rattle.model.specs.Machine.{emptyMachine};
+ghost use Rattle.rows.specs.FileRow.{isLent};
 ghost use Rattle.rows.specs.With.{withFiles};
-ghost use Rattle.process.specs.Start.{fileIn, filesOf, fileFits, badSizes, Zeros, Starts};
+ghost use Rattle.process.specs.Start.{fileIn, filesOf, badSizes, Zeros, Starts};
 use address::PhysFrame;
 use answers::Refusal;
 use model::Done;
@@ -19,6 +20,7 @@ use model::Pool;
 use rows::WORD_COUNT;
 use rows::backings::put_frame_count;
 use rows::backings::put_pool;
+use rows::files::is_lent;
 use rows::files::put_file;
 use rows::files::put_file_count;
 
@@ -34,28 +36,15 @@ fn file_in(rows: &[u64], i: usize) -> File
     }
 }
 
-// Whether a file lies in its bytes, with no sum that could be too large.
-fn file_fits(file: File, bytes: usize) -> bool
-    ensures { λ r. ⌜ r ≡ fileFits bytes file ⌝ }
-{
-    if 1 < file.readable {
-        return false;
-    }
-    if (bytes as u64) < file.len {
-        return false;
-    }
-    file.offset <= bytes as u64 - file.len
-}
-
 // Whether every file of a list does.
 fn files_fit(rows: &[u64], bytes: usize) -> bool
-    ensures { λ r. ⌜ r ≡ all (fileFits bytes) (filesOf (now (rows .entry))) ⌝ }
+    ensures { λ r. ⌜ r ≡ all (isLent bytes) (filesOf (now (rows .entry))) ⌝ }
 {
     let n = rows.len() / 3;
     let mut i = 0;
     while i < n {
         let file = file_in(rows, i);
-        if !file_fits(file, bytes) {
+        if !is_lent(file, bytes) {
             return false;
         }
         i += 1;

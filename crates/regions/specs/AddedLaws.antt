@@ -14,8 +14,8 @@ use Rattle.model.specs.Lookup.{freeSlot, rowFound}
 use Rattle.model.specs.Create.{addRegion}
 use Rattle.laws.specs.Tests.{Rows}
 use Rattle.rows.specs.With.{withOrderTable}
-use Rattle.lookup.specs.LookupsLaws.{part-length, order-length}
-use Rattle.laws.specs.ListsLaws.{pad-last, put-set}
+use Rattle.laws.specs.ListsLaws.{part-length, pad-last, put-set}
+use Rattle.lookup.specs.LookupsLaws.{order-length}
 use Rattle.regions.specs.Added.{withAdded}
 
 -- ---- what the puts leave

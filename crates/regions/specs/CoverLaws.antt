@@ -12,7 +12,8 @@ use Rattle.model.specs.declared.Found.{Found}
 use Rattle.model.specs.declared.Found.the-variants.{At, Nothing}
 use Rattle.model.specs.Machine.{Machine, regionAt, orderOf}
 use Rattle.model.specs.Lookup.{contains, spanEnd, regionFor, coveredFrom, covered}
-use Rattle.model.specs.LookupLaws.{first-found, both-true}
+use Rattle.model.specs.LookupLaws.{first-found}
+use Rattle.laws.specs.BoolLaws.{both-true}
 use Rattle.regions.specs.Cover.{endWithin, untilFound, coveredUntil}
 
 pub ends-before : (r : Region) (e : ℕ) → spanEnd r < e → spanEnd r ≡ endWithin r e

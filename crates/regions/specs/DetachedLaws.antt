@@ -10,10 +10,9 @@ use borrow.Author.Tests.{eq-eqb, ne-eqb}
 use Rattle.laws.specs.Lists.{keep, pad, putPart}
 use Rattle.model.specs.Machine.{Machine, processAt, attachedOf, withProcesses, withOrder, orderOf}
 use Rattle.model.specs.Layout.{machine}
-use Rattle.model.specs.MachineLaws.{pad-length}
+use Rattle.laws.specs.ListsLaws.{pad-length, keep-append, keep-most, pad-rest, sets-append, sets-after, sets-part}
 use Rattle.rows.specs.With.{withOrderTable}
 use Rattle.lookup.specs.AttachedLaws.{order-slot}
-use Rattle.laws.specs.ListsLaws.{keep-append, keep-most, pad-rest, sets-append, sets-after, sets-part}
 use Rattle.regions.specs.Detached.{other}
 
 -- ---- one place

@@ -19,8 +19,9 @@ use Rattle.model.specs.Machine.{Machine, processAt, orderOf, regionAt, noRegion
 use Rattle.model.specs.Lookup.{regionsOf, freeSlot, rowFound}
 use Rattle.model.specs.Create.{addRegion}
 use Rattle.model.specs.Sound.{Ordered}
-use Rattle.lookup.specs.LookupsLaws.{freeRegion, part-length, part-at}
-use Rattle.lookup.specs.FoundRowLaws.{first-found}
+use Rattle.lookup.specs.LookupsLaws.{freeRegion}
+use Rattle.laws.specs.ListsLaws.{part-length, part-at}
+use Rattle.model.specs.FoundRowLaws.{first-found}
 use Rattle.regions.specs.Added.{withAdded}
 use Rattle.regions.specs.AddedLaws.{added-free}
 use Rattle.regions.specs.Detached.{other}

@@ -10,17 +10,18 @@ use lib.ListN.{length, getD, set, List·getD-eq-default}
 use lib.Seq.{getD-set-same, getD-set-other}
 use lib.Dec.{eqb, ltb, leb}
 use borrow.Author.Tests.{ltb-true, ltb-false, leb-true, leb-false, eqb-true, eqb-false, eq-eqb, ne-eqb, lt-leb, not-true, not-false}
+use Rattle.laws.specs.BoolLaws.{both-true}
 use Rattle.model.specs.declared.Backing.{Backing}
 use Rattle.model.specs.declared.Entry.{Entry}
 use Rattle.model.specs.declared.Pool.{Pool}
 use Rattle.model.specs.declared.Region.{Region}
-use Rattle.laws.specs.Lists.{keep}
+use Rattle.laws.specs.Lists.{keep, count}
 use Rattle.model.specs.Machine.{Machine, State, noBacking, noEntry, noRegion}
-use Rattle.model.specs.Lookup.{isUsed, isRanged, isShared, count}
+use Rattle.model.specs.Lookup.{isUsed, isRanged, isShared}
 use Rattle.model.specs.Create.{one}
 use Rattle.model.specs.Backing.{backingAt, withBackings, letGo}
 use Rattle.model.specs.Sound.{Sound, R2, Hold, entryHolds, rangeHolds, holds, holdersOf}
-use Rattle.lookup.specs.FoundRowLaws.{count-append}
+use Rattle.laws.specs.CountLaws.{count-append}
 use Rattle.backing.specs.BackingLaws.{Ready, sound-ready, used-low}
 use Rattle.remove.specs.HoldingLaws.{oneIf, holding, Holder, holding-some}
 
@@ -109,16 +110,10 @@ module _ (s : State) (sound : Sound s) where
       one-frame = sound .r6 .entries (k .row) (k .inside) .used (eqb-false _ 0 (not-true _ (k .holds))) .frame
 
   range-used : (f : ℕ) → Holder rangeTaken rangeHold f noRegion refl (m .regions) → backingAt m f .len ≢ 0
-  range-used f k = subst (λ (x : ℕ). backingAt m x .len ≢ 0) (k .frame) (pages (both (isUsed r) (isRanged r) (k .holds)))
+  range-used f k = subst (λ (x : ℕ). backingAt m x .len ≢ 0) (k .frame) (pages (both-true (isUsed r) (isRanged r) (k .holds)))
     where
       r : Region
       r = getD (m .regions) (k .row) noRegion
-
-      both : (a b : Bool) → (a && b) ≡ true → (a ≡ true) × (b ≡ true)
-      both true true e = (refl, refl)
-      both true false e = absurd (false≢true e)
-      both false true e = absurd (false≢true e)
-      both false false e = absurd (false≢true e)
 
       pages : (isUsed r ≡ true) × (isRanged r ≡ true) → backingAt m (r .range .0) .len ≢ 0
       pages e =

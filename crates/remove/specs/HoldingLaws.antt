@@ -8,8 +8,7 @@ use native.Mathlib.Omega.{arith}
 use lib.ListN.{length, getD, set}
 use lib.Dec.{eqb}
 use borrow.Author.Tests.{eqb-true}
-use Rattle.laws.specs.Lists.{keep}
-use Rattle.model.specs.Lookup.{count}
+use Rattle.laws.specs.Lists.{keep, count}
 use Rattle.model.specs.Sound.{Hold}
 
 abbrev pub oneIf : Bool → ℕ

@@ -6,11 +6,13 @@ use Prim.Native.Nat.{ℕ, _+_, _-_, _/_, _≤_, _<_}
 use native.Mathlib.Omega.{arith}
 use lib.Dec.{ltb}
 use borrow.Author.Tests.{eq-eqb, ne-eqb}
+use Rattle.laws.specs.BoolLaws.{or-swap}
 use Rattle.laws.specs.TellsLaws.{not-told, tells-same}
 use Rattle.segment.specs.declared.Segment.{Segment}
 use Rattle.segment_search.specs.declared.Found.the-variants.{In}
 use Rattle.segment.specs.Form.{beforeb, overb}
-use Rattle.segment.specs.FormLaws.{ltb-tells, tells-as, over-tells}
+use Rattle.segment.specs.FormLaws.{over-tells}
+use Rattle.laws.specs.TestLaws.{tells-lt, tells-as}
 use Rattle.segments.specs.Table.{insert}
 use Rattle.segment_search.specs.Search.{firstOver}
 use Rattle.segments.specs.Calls.{isIn, overlapsb}
@@ -35,7 +37,7 @@ module _ (r : Region) (start len : ℕ) where
     -- it starts at or below: it reaches the start
     pub over-below : (n : ℕ) → n ≡ pagesFor (r .size) → r .start .0 ≤ start → ltb ((start - r .start .0) / 4096) n ≡ overUsed start len r
     over-below n e h = over-used _ (tells-same
-        (tells-as (ltb-tells ((start - r .start .0) / 4096) n) (λ l. record { some = λ z. omega arith; reaches = omega arith; begins = omega arith }) (λ o. reach (o .some) (o .reaches)))
+        (tells-as (λ l. record { some = λ z. omega arith; reaches = omega arith; begins = omega arith }) (λ o. reach (o .some) (o .reaches)) (tells-lt ((start - r .start .0) / 4096) n))
         (over-tells (segmentFor r) start (start + (len - 1))))
       where
         reach : (segmentLen r ≡ 0 → ⊥) → start ≤ r .start .0 + (segmentLen r - 1) → (start - r .start .0) / 4096 < n
@@ -48,7 +50,7 @@ module _ (r : Region) (start len : ℕ) where
       -- it starts above: the new segment reaches it
       pub over-above : 0 < len → (r .size ≡ 0 → ⊥) → ltb (r .start .0 - start) len ≡ overUsed start len r
       over-above some z = over-used _ (tells-same
-          (tells-as (ltb-tells (r .start .0 - start) len) (λ l. record { some = λ e. omega arith; reaches = omega arith; begins = omega arith }) (λ o. let b = o .begins in omega arith))
+          (tells-as (λ l. record { some = λ e. omega arith; reaches = omega arith; begins = omega arith }) (λ o. let b = o .begins in omega arith) (tells-lt (r .start .0 - start) len))
           (over-tells (segmentFor r) start (start + (len - 1))))
 
 -- ---- the sorted segments
@@ -72,14 +74,8 @@ module _ (first last : ℕ) where
   over-insert s [] = over-first s []
   over-insert s (x ∷ t) = by (beforeb x s) (over-insert s t)
     where
-      swap : (a b c : Bool) → (a || (b || c)) ≡ (b || (a || c))
-      swap true true c = refl
-      swap true false c = refl
-      swap false true c = refl
-      swap false false c = refl
-
       by : (b : Bool) → anyOver (insert s t) first last ≡ (overb s first last || anyOver t first last) → anyOver (cond b (x ∷ insert s t) (s ∷ x ∷ t)) first last ≡ (overb s first last || anyOver (x ∷ t) first last)
-      by true ih = over-first x (insert s t) ∙ ap (λ c. overb x first last || c) ih ∙ swap (overb x first last) (overb s first last) (anyOver t first last) ∙ ap (λ c. overb s first last || c) (sym (over-first x t))
+      by true ih = over-first x (insert s t) ∙ ap (λ c. overb x first last || c) ih ∙ or-swap (overb x first last) (overb s first last) (anyOver t first last) ∙ ap (λ c. overb s first last || c) (sym (over-first x t))
       by false ih = over-first s (x ∷ t)
 
 -- a process's segments overlap a new one exactly if a slot's region does

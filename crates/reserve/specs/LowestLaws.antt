@@ -11,11 +11,8 @@ use Rattle.segment.specs.declared.Segment.{Segment}
 use Rattle.segment_search.specs.declared.Search.{Search}
 use Rattle.segment_search.specs.declared.Search.the-variants.{Full}
 use Rattle.segments.specs.Table.{empty}
-use Rattle.segment_search.specs.Search.{search, ahead}
+use Rattle.segment_search.specs.Search.{search}
 use Rattle.segments.specs.Calls.{lowest}
-use Rattle.segment_search.specs.SegmentWords.{tableOf}
-use Rattle.segment_search.specs.SegmentWordsLaws.{table-length}
-use Rattle.segment_search.specs.TriesLaws.{ahead-le}
 use Rattle.segments.specs.PositionLaws.{held-stored}
 use Rattle.model.specs.declared.Process.{Process}
 use Rattle.model.specs.declared.Place.{Place}
@@ -29,10 +26,6 @@ use Rattle.model.specs.SoundLaws.{tells-processes}
 use Rattle.model.specs.RecordLaws.{process-tells}
 use Rattle.lookup.specs.LookupsLaws.{processes-length}
 use Rattle.reserve.specs.Lowest.{ProcessesFit}
-
--- no more segments are ahead than the table has rows
-pub few-ahead : (t : List ℕ) (n start : ℕ) → 0 + ahead (tableOf t n) start ≤ n
-few-ahead t n start = let a = ahead-le (tableOf t n) start in let l = table-length t n in omega arith
 
 module _ (m : Machine) (p len : ℕ) (q : Process) (read : q ≡ processAt m p) where
   -- the search of some segments over an arena

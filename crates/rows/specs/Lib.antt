@@ -6,3 +6,5 @@ pub mod With
 pub mod PutsLaws
 pub mod LentMemory
 pub mod GuardedLaws
+pub mod FileRow
+pub mod FileRowLaws

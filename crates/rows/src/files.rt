@@ -4,6 +4,7 @@ ghost use Prim.Native.Nat.{_<_};
 ghost use lib.ListN.{length, getD, set};
 ghost use Rattle.model.specs.Layout.{wordCount, machine};
 ghost use Rattle.model.specs.Machine.{noFile};
+ghost use Rattle.rows.specs.FileRow.{isLent};
 ghost use Rattle.rows.specs.With.{withFiles, withFileCount};
 use crate::FILE_COUNT_AT;
 use crate::FILE_WORDS;
@@ -34,6 +35,19 @@ pub fn put_file(words: &mut [u64], i: usize, row: File)
     words[at] = row.readable;
     words[at + 1] = row.offset;
     words[at + 2] = row.len;
+}
+
+// Whether a file lies in the lent bytes, with no sum that could be too large.
+pub fn is_lent(file: File, bytes: usize) -> bool
+    ensures { λ r. ⌜ r ≡ isLent bytes file ⌝ }
+{
+    if 1 < file.readable {
+        return false;
+    }
+    if (bytes as u64) < file.len {
+        return false;
+    }
+    file.offset <= bytes as u64 - file.len
 }
 
 // How many files there are.

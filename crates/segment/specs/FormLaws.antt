@@ -1,7 +1,7 @@
 -- Laws of `Form`: a segment by itself: its form, its place in list order, and what it overlaps.
 use mathlib.Core.Path.{_≡_, refl, ap, sym, _∙_}
-use mathlib.Core.Logic.{_⊎_, inl, inr, ⊎-elim}
-use mathlib.Core.Bool.{Bool, true, false, not, _||_, cond}
+use mathlib.Core.Logic.{_⊎_}
+use mathlib.Core.Bool.{Bool, true, false, cond}
 use Prim.Native.Nat.{ℕ, _-_, _^_, _≤_, _<_}
 use lib.Dec.{eqb, ltb, leb}
 use Rattle.answers.specs.declared.Refusal.the-variants.{BadAddress, BadRange}
@@ -11,9 +11,10 @@ use Rattle.segment.specs.declared.Answered.{Answered}
 use Rattle.segment.specs.declared.Answered.the-variants.{Done, Refused}
 use Rattle.segment.specs.Form.{startOf, lastOf, inHalf, formOf, sameb, beforeb, overb}
 use native.Mathlib.Omega.{arith}
-use borrow.Author.Tests.{eqb-true, eqb-false, ltb-true, ltb-false, leb-true, eq-eqb, ne-eqb, lt-ltb, le-ltb, le-leb}
+use borrow.Author.Tests.{eqb-true, eqb-false, ltb-true, ltb-false, eq-eqb, ne-eqb, lt-ltb, le-ltb}
 use Rattle.laws.specs.Tells.{Tells}
-use Rattle.laws.specs.TellsLaws.{tells-of, told, not-told, tells-same, tells-both}
+use Rattle.laws.specs.TellsLaws.{told, not-told, tells-same, tells-both}
+use Rattle.laws.specs.TestLaws.{tells-eq, tells-lt, tells-le, tells-not, tells-or, tells-as}
 
 -- whether an answer is no refusal
 abbrev pub done : Answered → Bool
@@ -33,41 +34,19 @@ pub record Over (s : Segment) (first last : ℕ) : Type 0 where
   pub reaches : first ≤ lastOf s
   pub begins : startOf s ≤ last
 
--- ---- tests as propositions
-
-pub eqb-tells : (a b : ℕ) → Tells (eqb a b) (a ≡ b)
-eqb-tells a b = tells-of (eqb a b) (eqb-true a b) (eq-eqb a b)
-
-pub ltb-tells : (a b : ℕ) → Tells (ltb a b) (a < b)
-ltb-tells a b = tells-of (ltb a b) (ltb-true a b) (lt-ltb a b)
-
-pub leb-tells : (a b : ℕ) → Tells (leb a b) (a ≤ b)
-leb-tells a b = tells-of (leb a b) (leb-true a b) (le-leb a b)
-
-pub not-tells : {b : Bool} {P : Type 0} → Tells b P → Tells (not b) (P → ⊥)
-not-tells {b = true} t = record { yes = λ e. absurd (mathlib.Core.Bool.false≢true e); no = λ e n. n (t .yes refl) }
-not-tells {b = false} t = record { yes = λ e. t .no refl; no = λ e n. mathlib.Core.Bool.true≢false e }
-
-pub either-tells : {a b : Bool} {P Q : Type 0} → Tells a P → Tells b Q → Tells (a || b) (P ⊎ Q)
-either-tells {a = true} s t = record { yes = λ e. inl (s .yes refl); no = λ e n. mathlib.Core.Bool.true≢false e }
-either-tells {a = false} s t = record { yes = λ e. inr (t .yes e); no = λ e n. ⊎-elim (s .no refl) (t .no e) n }
-
-pub tells-as : {b : Bool} {P Q : Type 0} → Tells b P → (P → Q) → (Q → P) → Tells b Q
-tells-as t f g = record { yes = λ e. f (t .yes e); no = λ e q. t .no e (g q) }
-
 -- ---- order and overlap
 
 pub same-tells : (a b : Segment) → Tells (sameb a b) (Same a b)
-same-tells a b = tells-as (tells-both (eqb-tells (startOf a) (startOf b)) (eqb-tells (a .len) (b .len))) (λ p. record { starts = p .0; lens = p .1 }) (λ s. (s .starts, s .lens))
+same-tells a b = tells-as (λ p. record { starts = p .0; lens = p .1 }) (λ s. (s .starts, s .lens)) (tells-both (tells-eq (startOf a) (startOf b)) (tells-eq (a .len) (b .len)))
 
 pub before-tells : (a b : Segment) → Tells (beforeb a b) (Before a b)
-before-tells a b = either-tells (ltb-tells _ _) (tells-both (eqb-tells _ _) (ltb-tells _ _))
+before-tells a b = tells-or (tells-lt _ _) (tells-both (tells-eq _ _) (tells-lt _ _))
 
 pub over-tells : (s : Segment) (first last : ℕ) → Tells (overb s first last) (Over s first last)
 over-tells s first last =
-    tells-as (tells-both (not-tells (eqb-tells (s .len) 0)) (tells-both (leb-tells first (lastOf s)) (leb-tells (startOf s) last)))
-    (λ p. record { some = p .0; reaches = p .1 .0; begins = p .1 .1 })
+    tells-as (λ p. record { some = p .0; reaches = p .1 .0; begins = p .1 .1 })
     (λ o. (o .some, (o .reaches, o .begins)))
+    (tells-both (tells-not (tells-eq (s .len) 0)) (tells-both (tells-le first (lastOf s)) (tells-le (startOf s) last)))
 
 -- the same start and length make the same segment
 pub same-is : (a b : Segment) → Same a b → a ≡ b
@@ -99,7 +78,7 @@ module _ (s : Segment) (first last : ℕ) where
 
     pub over-reaches : startOf s < first → leb (first - startOf s) (s .len - 1) ≡ overb s first last
     over-reaches h = tells-same
-        (tells-as (leb-tells (first - startOf s) (s .len - 1)) (λ l. record { some = n; reaches = omega arith; begins = b }) (λ o. let r = o .reaches in omega arith))
+        (tells-as (λ l. record { some = n; reaches = omega arith; begins = b }) (λ o. let r = o .reaches in omega arith) (tells-le (first - startOf s) (s .len - 1)))
         (over-tells s first last)
 
 -- ---- form

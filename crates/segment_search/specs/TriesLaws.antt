@@ -14,7 +14,8 @@ use Rattle.segment.specs.declared.Segment.{Segment}
 use Rattle.segment_search.specs.declared.Found.{Found}
 use Rattle.segment_search.specs.declared.Found.the-variants.{In, Nothing}
 use Rattle.segment.specs.Form.{startOf, lastOf, overb}
-use Rattle.segment.specs.FormLaws.{Over, eqb-tells, leb-tells, not-tells, over-tells}
+use Rattle.segment.specs.FormLaws.{Over, over-tells}
+use Rattle.laws.specs.TestLaws.{tells-eq, tells-le, tells-not}
 use Rattle.segment_search.specs.Search.{firstOver, count, aheadb, ahead, try, tries}
 
 -- by a test
@@ -60,7 +61,7 @@ abbrev pub Ahead : ℕ → Segment → Type 0
 Ahead start s = (s .len ≡ 0 → ⊥) × (start ≤ lastOf s)
 
 pub ahead-tells : (start : ℕ) (s : Segment) → Tells (aheadb start s) (Ahead start s)
-ahead-tells start s = tells-both (not-tells (eqb-tells (s .len) 0)) (leb-tells start (lastOf s))
+ahead-tells start s = tells-both (tells-not (tells-eq (s .len) 0)) (tells-le start (lastOf s))
 
 pub count-length : (p : Segment → Bool) (t : List Segment) → count p t ≤ length t
 unfolding count

@@ -38,8 +38,8 @@ use Rattle.segment_search.specs.TriesLaws.{by-test, ahead-le}
 use Rattle.segments.specs.PositionLaws.{place-stands, place-absent, held-stored, stored-stored}
 use Rattle.segments.specs.ShiftLaws.{removed-length}
 use Rattle.segments.specs.InsertLaws.{length-insert}
-use Rattle.segments.specs.LoopLaws.{held-length}
-use Rattle.segments.specs.CallWayLaws.{point-done}
+use Rattle.segments.specs.HeldLoopLaws.{held-length}
+use Rattle.segments.specs.CallWayLaws.{refused-not-done, point-done}
 use Rattle.segments.specs.CallTestLaws.{Inside, inside-tells}
 use Rattle.segments.specs.Calls.{segment, newCall, lowest, reserveCall, checkedBy, overlapsb, markCall, releaseCall, insideb, splitPoint, low, high, splitCall, listCall}
 
@@ -112,9 +112,6 @@ module _ (m : VirtualMemoryManager) (s : Segment) (b : Bool) (test : b ≡ sound
   pub checked-form : b ≡ true → (f : Answered) → f ≡ formOf s → f ≡ checkedBy m s
   unfolding checkedBy
   checked-form e f p = p ∙ sym (ap (λ (x : Bool). cond x (formOf s) (Refused BadTable)) (sym test ∙ e))
-
-refused-not-done : (why : Refusal) → Refused why ≡ Done → ⊥
-refused-not-done why p = mathlib.Core.Bool.false≢true (ap done p)
 
 -- what passed the tests is a sound table and a well-formed segment
 pub checked-sound : (m : VirtualMemoryManager) (s : Segment) → checkedBy m s ≡ Done → soundb m ≡ true

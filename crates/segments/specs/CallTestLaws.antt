@@ -9,7 +9,8 @@ use Rattle.laws.specs.Tells.{Tells}
 use Rattle.laws.specs.TellsLaws.{tells-both}
 use Rattle.segment.specs.declared.Segment.{Segment}
 use Rattle.segment.specs.Form.{startOf, lastOf, overb}
-use Rattle.segment.specs.FormLaws.{Over, eqb-tells, ltb-tells, not-tells, either-tells, tells-as, same-tells, over-tells, same-is}
+use Rattle.segment.specs.FormLaws.{Over, same-tells, over-tells, same-is}
+use Rattle.laws.specs.TestLaws.{tells-eq, tells-lt, tells-not, tells-or, tells-as}
 use Rattle.segments.specs.TableLaws.{heldb}
 use Rattle.segment_search.specs.Search.{firstOver}
 use Rattle.segments.specs.Calls.{isIn, overlapsb, insideb, low, high}
@@ -23,19 +24,19 @@ Any P (s ∷ t) = P s ⊎ Any P t
 pub held-tells : (s : Segment) (t : List Segment) → Tells (heldb s t) (Any (λ x. x ≡ s) t)
 unfolding heldb
 held-tells s [] = record { yes = λ e. mathlib.Core.Bool.false≢true e; no = λ e p. p }
-held-tells s (x ∷ t) = either-tells (tells-as (same-tells x s) (same-is x s) (λ p. record { starts = ap startOf p; lens = ap (λ y. y .len) p })) (held-tells s t)
+held-tells s (x ∷ t) = tells-or (tells-as (same-is x s) (λ p. record { starts = ap startOf p; lens = ap (λ y. y .len) p }) (same-tells x s)) (held-tells s t)
 
 first-tells : (first last : ℕ) (t : List Segment) → Tells (isIn (firstOver t first last)) (Any (λ x. Over x first last) t)
 unfolding firstOver
 first-tells first last [] = record { yes = λ e. mathlib.Core.Bool.false≢true e; no = λ e p. p }
 first-tells first last (x ∷ t) =
     by-test (overb x first last) (λ e. rw e (record { yes = λ y. inl (over-tells x first last .yes e); no = λ n. absurd (mathlib.Core.Bool.true≢false n) }))
-    (λ e. rw e (tells-as (first-tells first last t) (λ p. inr p) (⊎-elim (λ o. absurd (over-tells x first last .no e o)) (λ p. p))))
+    (λ e. rw e (tells-as (λ p. inr p) (⊎-elim (λ o. absurd (over-tells x first last .no e o)) (λ p. p)) (first-tells first last t)))
 
 -- "Empty segments never overlap"
 pub overlaps-tells : (s : Segment) (t : List Segment) → Tells (overlapsb t s) ((s .len ≡ 0 → ⊥) × Any (λ x. Over x (startOf s) (lastOf s)) t)
 unfolding overlapsb
-overlaps-tells s t = tells-both (not-tells (eqb-tells (s .len) 0)) (first-tells (startOf s) (lastOf s) t)
+overlaps-tells s t = tells-both (tells-not (tells-eq (s .len) 0)) (first-tells (startOf s) (lastOf s) t)
 
 -- a page starts at `at`, strictly inside the segment
 pub record Inside (s : Segment) (at : ℕ) : Type 0 where
@@ -46,8 +47,8 @@ pub record Inside (s : Segment) (at : ℕ) : Type 0 where
 pub inside-tells : (s : Segment) (at : VirtAddr) → Tells (insideb s at) (Inside s (at .0))
 unfolding insideb
 inside-tells s at =
-    tells-as (tells-both (eqb-tells (at .0 % 4096) 0) (tells-both (ltb-tells (startOf s) (at .0)) (ltb-tells (at .0 - startOf s) (s .len))))
-    (λ p. record { page = p .0; above = p .1 .0; below = omega (arith, p .1) }) (λ i. (i .page, (i .above, omega (arith, i))))
+    tells-as (λ p. record { page = p .0; above = p .1 .0; below = omega (arith, p .1) })
+    (λ i. (i .page, (i .above, omega (arith, i)))) (tells-both (tells-eq (at .0 % 4096) 0) (tells-both (tells-lt (startOf s) (at .0)) (tells-lt (at .0 - startOf s) (s .len))))
 
 -- the two parts meet at the point, neither is empty, and together they are the segment
 pub record Parts (s a b : Segment) (at : ℕ) : Type 0 where

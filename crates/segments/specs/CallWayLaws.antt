@@ -1,5 +1,5 @@
 -- The ways through each call: it refuses and leaves the manager as it was, or it does what it was asked for.
-use mathlib.Core.Path.{_≡_, refl}
+use mathlib.Core.Path.{_≡_, ap, refl}
 use mathlib.Core.Logic.{_⊎_, inl, inr}
 use mathlib.Core.Bool.{true, false, and-eq-true-iff}
 use Prim.Native.Nat.{ℕ, _-_, _<_}
@@ -16,6 +16,7 @@ use Rattle.segment.specs.declared.Answered.{Answered}
 use Rattle.segment.specs.declared.Answered.the-variants.{Done, Refused}
 use Rattle.segment_search.specs.declared.Search.{Search}
 use Rattle.segment_search.specs.declared.Search.the-variants.{Free, Full}
+use Rattle.segment.specs.FormLaws.{done}
 use Rattle.segments.specs.declared.table.VirtualMemoryManager.{VirtualMemoryManager}
 use Rattle.segments.specs.declared.manager.Reserved.the-variants as reserved
 use Rattle.segments.specs.declared.manager.Released.the-variants as released
@@ -115,17 +116,17 @@ pub record Splits (m : VirtualMemoryManager) (s : Segment) (at : VirtAddr) : Typ
   pub is : splitCall m s at ≡ record { answer = split.Parts (low s at) (high s at); manager = stored m (insert (high s at) (insert (low s at) (remove s (held m)))) }
 
 -- a point that is not refused is inside a segment of good form
+pub refused-not-done : (why : Refusal) → Refused why ≡ Done → ⊥
+refused-not-done why p = mathlib.Core.Bool.false≢true (ap done p)
+
 pub point-done : (m : VirtualMemoryManager) (s : Segment) (at : VirtAddr) → splitPoint m s at ≡ Done → Formed s × (insideb s at ≡ true)
 unfolding splitPoint
 point-done m s at e =
-    by-test (soundb m) (λ k. by-test (canonical (at .0)) (λ c. formed (formOf s) refl (rw (k, c) at e)) (λ c. absurd (never BadAddress (rw (k, c) at e)))) (λ k. absurd (never BadTable (rw k at e)))
+    by-test (soundb m) (λ k. by-test (canonical (at .0)) (λ c. formed (formOf s) refl (rw (k, c) at e)) (λ c. absurd (refused-not-done BadAddress (rw (k, c) at e)))) (λ k. absurd (refused-not-done BadTable (rw k at e)))
   where
-    never : (why : Refusal) → Refused why ≡ Done → ⊥
-    never why p = let z : _≡_ {A = ℕ} 0 1 = cc in omega arith
-
     formed : (f : Answered) → formOf s ≡ f → pointAs f s at ≡ Done → Formed s × (insideb s at ≡ true)
-    formed (Refused why) p q = absurd (never why q)
-    formed Done p q = (p, by-test (insideb s at) (λ i. i) (λ i. absurd (never InvalidSplitPoint (rw i at q))))
+    formed (Refused why) p q = absurd (refused-not-done why q)
+    formed Done p q = (p, by-test (insideb s at) (λ i. i) (λ i. absurd (refused-not-done InvalidSplitPoint (rw i at q))))
 
 inside-strictly : (s : Segment) (at : VirtAddr) → insideb s at ≡ true → (startOf s < at .0) × (at .0 - startOf s < s .len)
 unfolding insideb

@@ -11,7 +11,8 @@ use Rattle.laws.specs.Tells.{Tells}
 use Rattle.laws.specs.TellsLaws.{tells-both, told}
 use Rattle.segment.specs.declared.Segment.{Segment}
 use Rattle.segment.specs.Form.{startOf, lastOf, emptyb, inHalf, formOf}
-use Rattle.segment.specs.FormLaws.{done, eqb-tells, ltb-tells, leb-tells, either-tells, tells-as}
+use Rattle.segment.specs.FormLaws.{done}
+use Rattle.laws.specs.TestLaws.{tells-eq, tells-lt, tells-le, tells-or, tells-as}
 use Rattle.segments.specs.TableLaws.{Formed}
 use Rattle.segment_search.specs.TriesLaws.{by-test}
 use Rattle.segments.specs.RuleLaws.{formed-tells}
@@ -27,10 +28,10 @@ module _ (s : Segment) where
   half-tells = by-test (ltb (startOf s) (2 ^ 47)) low high
     where
       low : ltb (startOf s) (2 ^ 47) ≡ true → Tells (inHalf s) (((startOf s < 2 ^ 47) × (lastOf s < 2 ^ 47)) ⊎ ((2 ^ 47 ≤ startOf s) × (lastOf s < 2 ^ 64)))
-      low e = rw e (tells-as (ltb-tells (lastOf s) (2 ^ 47)) (λ l. inl (ltb-true (startOf s) (2 ^ 47) e, l)) (⊎-elim (λ p. p .1) (λ p. absurd (omega (arith, ltb-true (startOf s) (2 ^ 47) e, p .0)))))
+      low e = rw e (tells-as (λ l. inl (ltb-true (startOf s) (2 ^ 47) e, l)) (⊎-elim (λ p. p .1) (λ p. absurd (omega (arith, ltb-true (startOf s) (2 ^ 47) e, p .0)))) (tells-lt (lastOf s) (2 ^ 47)))
 
       high : ltb (startOf s) (2 ^ 47) ≡ false → Tells (inHalf s) (((startOf s < 2 ^ 47) × (lastOf s < 2 ^ 47)) ⊎ ((2 ^ 47 ≤ startOf s) × (lastOf s < 2 ^ 64)))
-      high e = rw e (tells-as (ltb-tells (lastOf s) (2 ^ 64)) (λ l. inr (ltb-false (startOf s) (2 ^ 47) e, l)) (⊎-elim (λ p. absurd (omega (arith, ltb-false (startOf s) (2 ^ 47) e, p .0))) (λ p. p .1)))
+      high e = rw e (tells-as (λ l. inr (ltb-false (startOf s) (2 ^ 47) e, l)) (⊎-elim (λ p. absurd (omega (arith, ltb-false (startOf s) (2 ^ 47) e, p .0))) (λ p. p .1)) (tells-lt (lastOf s) (2 ^ 64)))
 
   form-test : (canonical (startOf s) && (emptyb s || inHalf s)) ≡ done (formOf s)
   unfolding formOf
@@ -38,7 +39,7 @@ module _ (s : Segment) where
 
   test-tells : Tells (canonical (startOf s) && (emptyb s || inHalf s)) (OneHalf s)
   unfolding canonical
-  test-tells = tells-as (tells-both (either-tells (ltb-tells (startOf s) (2 ^ 47)) (leb-tells (2 ^ 64 - 2 ^ 47) (startOf s))) (either-tells (eqb-tells (s .len) 0) half-tells)) (λ p. to (p .0) (p .1)) from
+  test-tells = tells-as (λ p. to (p .0) (p .1)) from (tells-both (tells-or (tells-lt (startOf s) (2 ^ 47)) (tells-le (2 ^ 64 - 2 ^ 47) (startOf s))) (tells-or (tells-eq (s .len) 0) half-tells))
     where
       to : (startOf s < 2 ^ 47) ⊎ (2 ^ 64 - 2 ^ 47 ≤ startOf s) → (s .len ≡ 0) ⊎ (((startOf s < 2 ^ 47) × (lastOf s < 2 ^ 47)) ⊎ ((2 ^ 47 ≤ startOf s) × (lastOf s < 2 ^ 64))) → OneHalf s
       to (inl l) (inl z) = inl (l, inl z)

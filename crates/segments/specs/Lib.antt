@@ -1,7 +1,7 @@
 -- The rooms of the definitions and laws: docs/ARCHITECTURE.md says which to read.
 pub mod Table
 pub mod TableLaws
-pub mod LoopLaws
+pub mod HeldLoopLaws
 pub mod ShiftLaws
 pub mod Calls
 pub mod RuleLaws

@@ -1,6 +1,6 @@
 -- A table of points over any kind of call: a row is a run of calls from a fresh start, with what each must answer and what must stand in the tables after it.
 use mathlib.Core.Bool.{Bool, true, false, _&&_}
-use mathlib.Core.List.{List, [], _∷_, map}
+use mathlib.Core.List.{List, [], _∷_}
 use Prim.Native.Nat.{ℕ}
 use lib.Dec.{eqb}
 
@@ -18,10 +18,6 @@ pub record Row (C : Type 0) : Type 0 where
 pub record Ran (S : Type 0) : Type 0 where
   pub answer : List ℕ
   pub state : S
-
--- the same row over a wider kind of call
-abbrev pub rowAs : {C D : Type 0} → (C → D) → Row C → Row D
-rowAs f r = record { steps = map (λ s. record { call = f (s .call); answer = s .answer }) (r .steps); after = r .after }
 
 abbrev pub sameNumbers : List ℕ → List ℕ → Bool
 sameNumbers [] [] = true

@@ -14,7 +14,8 @@ use Rattle.segment_search.specs.declared.Found.{Found}
 use Rattle.segment_search.specs.declared.Found.the-variants.{In, Nothing}
 use Rattle.segment_search.specs.declared.Search.the-variants.{Free}
 use Rattle.segment.specs.Form.{startOf, lastOf, overb}
-use Rattle.segment.specs.FormLaws.{Before, Over, eqb-tells, ltb-tells, leb-tells, not-tells, tells-as, over-tells}
+use Rattle.segment.specs.FormLaws.{Before, Over, over-tells}
+use Rattle.laws.specs.TestLaws.{tells-eq, tells-lt, tells-le, tells-not, tells-as}
 use Rattle.segments.specs.TableLaws.{All, Pairs, Apart}
 use Rattle.segment_search.specs.Search.{firstOver, count, ahead, try, tries}
 use Rattle.segment_search.specs.TriesLaws.{by-test, first-cases, none-first, first-over, ahead-falls, count-yes, count-no}
@@ -28,7 +29,7 @@ abbrev Passed : ℕ → ℕ → Segment → Type 0
 Passed from a s = (s .len ≡ 0 → ⊥) × ((from ≤ lastOf s) × (startOf s < a))
 
 passed-tells : (from a : ℕ) (s : Segment) → Tells (passedb from a s) (Passed from a s)
-passed-tells from a s = tells-both (not-tells (eqb-tells (s .len) 0)) (tells-both (leb-tells from (lastOf s)) (ltb-tells (startOf s) a))
+passed-tells from a s = tells-both (tells-not (tells-eq (s .len) 0)) (tells-both (tells-le from (lastOf s)) (tells-lt (startOf s) a))
 
 -- two tests that tell the same of every row count the same
 count-same : (p q : Segment → Bool) (t : List Segment) → All (λ s. p s ≡ q s) t → count p t ≡ count q t
@@ -46,7 +47,7 @@ module _ (start last a : ℕ) (s : Segment) (o : Over s start last) (past : star
   other : (x : Segment) → (Passed start a x → startOf s + s .len ≤ lastOf x) → passedb start a x ≡ passedb (startOf s + s .len) a x
   other x h =
       tells-same
-      (tells-as (passed-tells start a x) (λ p. (p .0, (h p, p .1 .1))) (λ q. (q .0, (omega (arith, o .reaches, q .1 .0), q .1 .1))))
+      (tells-as (λ p. (p .0, (h p, p .1 .1))) (λ q. (q .0, (omega (arith, o .reaches, q .1 .0), q .1 .1))) (passed-tells start a x))
       (passed-tells (startOf s + s .len) a x)
 
   -- past the first in the way there is one passed less

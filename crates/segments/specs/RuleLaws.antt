@@ -13,7 +13,8 @@ use Rattle.segment.specs.declared.Answered.the-variants.{Done, Refused}
 use Rattle.segments.specs.declared.table.VirtualMemoryManager.{VirtualMemoryManager}
 use Rattle.segments.specs.declared.table.Reach.{Reach}
 use Rattle.segment.specs.Form.{startOf, lastOf, emptyb, formOf}
-use Rattle.segment.specs.FormLaws.{done, Before, eqb-tells, ltb-tells, leb-tells, either-tells, tells-as, before-tells}
+use Rattle.segment.specs.FormLaws.{done, Before, before-tells}
+use Rattle.laws.specs.TestLaws.{tells-eq, tells-lt, tells-le, tells-or, tells-as}
 use Rattle.segments.specs.Table.{held, arena, reachWith, inOrder, followsb, walk, noSegment, noReach, soundb}
 use Rattle.segments.specs.TableLaws.{All, Pairs, Formed, Apart, Rule}
 use Rattle.segment_search.specs.TriesLaws.{by-test}
@@ -71,7 +72,7 @@ record Walked (t : List Segment) (started : Bool) (prev : Segment) (r : Reach) :
   apart : Pairs Apart t
 
 after-tells : (started : Bool) (prev s : Segment) → Tells (inOrder started prev s) (After started prev s)
-after-tells true prev s = tells-as (before-tells prev s) (λ b e. b) (λ f. f refl)
+after-tells true prev s = tells-as (λ b e. b) (λ f. f refl) (before-tells prev s)
 after-tells false prev s = record { yes = λ e f. absurd (mathlib.Core.Bool.false≢true f); no = λ e. absurd (mathlib.Core.Bool.true≢false e) }
 
 false-tells : (b : Bool) → Tells (not b) (b ≡ false)
@@ -80,9 +81,8 @@ false-tells false = record { yes = λ e. refl; no = λ e f. mathlib.Core.Bool.tr
 
 follows-tells : (r : Reach) (started : Bool) (prev s : Segment) → Tells (followsb r started prev s) (Follows r started prev s)
 follows-tells r started prev s =
-    tells-as
-    (tells-both (formed-tells s) (tells-both (after-tells started prev s) (either-tells (eqb-tells (s .len) 0) (either-tells (false-tells (r .any)) (ltb-tells (r .last) (startOf s))))))
-    (λ p. record { formed = p .0; after = p .1 .0; above = p .1 .1 }) (λ f. (f .formed, (f .after, f .above)))
+    tells-as (λ p. record { formed = p .0; after = p .1 .0; above = p .1 .1 }) (λ f. (f .formed, (f .after, f .above)))
+    (tells-both (formed-tells s) (tells-both (after-tells started prev s) (tells-or (tells-eq (s .len) 0) (tells-or (false-tells (r .any)) (tells-lt (r .last) (startOf s))))))
 
 -- a row s that follows, and a later one x: x is above all with s, if it is above all without s and apart from s
 module _ (r : Reach) (s x : Segment) where
@@ -90,7 +90,7 @@ module _ (r : Reach) (s x : Segment) where
   above-with a p = by-test (emptyb s) (λ e. rw e a) (λ n. rw n (clear n (p .clear)))
     where
       clear : emptyb s ≡ false → (s .len ≡ 0) ⊎ ((x .len ≡ 0) ⊎ (lastOf s < startOf x)) → (x .len ≡ 0) ⊎ ((true ≡ false) ⊎ (lastOf s < startOf x))
-      clear n (inl z) = absurd (eqb-tells (s .len) 0 .no n z)
+      clear n (inl z) = absurd (tells-eq (s .len) 0 .no n z)
       clear n (inr (inl z)) = inl z
       clear n (inr (inr l)) = inr (inr l)
 
@@ -100,12 +100,12 @@ module _ (r : Reach) (s x : Segment) where
       over : emptyb s ≡ false → Above r s → (x .len ≡ 0) ⊎ ((true ≡ false) ⊎ (lastOf s < startOf x)) → Above r x
       over n b (inl z) = inl z
       over n b (inr (inl f)) = absurd (mathlib.Core.Bool.true≢false f)
-      over n (inl z) (inr (inr l)) = absurd (eqb-tells (s .len) 0 .no n z)
+      over n (inl z) (inr (inr l)) = absurd (tells-eq (s .len) 0 .no n z)
       over n (inr (inl z)) (inr (inr l)) = inr (inl z)
       over n (inr (inr k)) (inr (inr l)) = inr (inr (omega arith))
 
   apart-above : Before s x → Above (reachWith r s) x → Apart s x
-  apart-above b a = record { order = b; clear = by-test (emptyb s) (λ e. inl (eqb-tells (s .len) 0 .yes e)) (λ n. over (rw n at a)) }
+  apart-above b a = record { order = b; clear = by-test (emptyb s) (λ e. inl (tells-eq (s .len) 0 .yes e)) (λ n. over (rw n at a)) }
     where
       over : (x .len ≡ 0) ⊎ ((true ≡ false) ⊎ (lastOf s < startOf x)) → (s .len ≡ 0) ⊎ ((x .len ≡ 0) ⊎ (lastOf s < startOf x))
       over (inl z) = inr (inl z)
@@ -115,7 +115,7 @@ module _ (r : Reach) (s x : Segment) where
 walk-tells : (t : List Segment) (started : Bool) (prev : Segment) (r : Reach) → Tells (walk t started prev r) (Walked t started prev r)
 unfolding walk
 walk-tells [] started prev r = record { yes = λ e. record { formed = tt; after = tt; above = tt; apart = tt }; no = λ e. absurd (mathlib.Core.Bool.true≢false e) }
-walk-tells (s ∷ t) started prev r = tells-as (tells-both (follows-tells r started prev s) (walk-tells t true s (reachWith r s))) join split
+walk-tells (s ∷ t) started prev r = tells-as join split (tells-both (follows-tells r started prev s) (walk-tells t true s (reachWith r s)))
   where
     join : Follows r started prev s × Walked t true s (reachWith r s) → Walked (s ∷ t) started prev r
     join p =
@@ -140,7 +140,7 @@ walk-tells (s ∷ t) started prev r = tells-as (tells-both (follows-tells r star
 -- document 01's rule of a lone manager's table is what the test tells
 pub sound-tells : (m : VirtualMemoryManager) → Tells (soundb m) (Rule m)
 unfolding soundb
-sound-tells m = tells-as (tells-both (formed-tells (arena m)) (tells-both (leb-tells (m .count) 64) (walk-tells (held m) false noSegment noReach))) join split
+sound-tells m = tells-as join split (tells-both (formed-tells (arena m)) (tells-both (tells-le (m .count) 64) (walk-tells (held m) false noSegment noReach)))
   where
     join : Formed (arena m) × ((m .count ≤ 64) × Walked (held m) false noSegment noReach) → Rule m
     join p = record { arenaFormed = p .0; counted = p .1 .0; formed = p .1 .1 .formed; apart = p .1 .1 .apart }

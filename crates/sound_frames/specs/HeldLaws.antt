@@ -2,22 +2,23 @@
 use mathlib.Core.Path.{_≡_, refl, ap, sym, _∙_}
 use mathlib.Core.Logic.{_≢_}
 use mathlib.Core.Bool.{Bool, true, false, not, _&&_, cond}
-use mathlib.Core.List.{List, [], _∷_, _++_, map}
-use Prim.Native.Nat.{ℕ, zero, suc, _+_, _-_, _/_, _≤_, _<_}
+use mathlib.Core.List.{List, [], _∷_, map}
+use Prim.Native.Nat.{ℕ, _+_, _-_, _/_, _≤_, _<_}
 use native.Mathlib.Omega.{arith}
 use lib.ListN.{length, getD, length-append, length-map, List·getD-append, List·getD-map}
 use lib.Dec.{eqb, ltb}
 use borrow.Author.Tests.{eq-eqb, ne-eqb, lt-ltb, le-ltb, ltb-false}
 use Rattle.model.specs.declared.Entry.{Entry}
 use Rattle.model.specs.declared.Region.{Region}
-use Rattle.laws.specs.Lists.{keep}
+use Rattle.laws.specs.Lists.{keep, count}
 use Rattle.model.specs.Layout.{machine}
 use Rattle.model.specs.Machine.{Machine, noEntry, noRegion}
-use Rattle.model.specs.Lookup.{count, isUsed, isRanged, isShared}
+use Rattle.model.specs.Lookup.{isUsed, isRanged, isShared}
 use Rattle.model.specs.Create.{one}
 use Rattle.model.specs.Sound.{Hold, entryHolds, rangeHolds, holds, holdersOf}
 use Rattle.lookup.specs.LookupsLaws.{entries-length, regions-length}
-use Rattle.lookup.specs.FoundRowLaws.{count-append}
+use Rattle.laws.specs.ListsLaws.{past-append}
+use Rattle.laws.specs.CountLaws.{count-append}
 use Rattle.sound_frames.specs.declared.held.Held.{Held}
 use Rattle.sound_frames.specs.Held.{placeOf, entryHeld, rangeHeld, noHeld, heldRows}
 
@@ -67,12 +68,6 @@ held-length w =
     let b = length-map (machine w .regions) rangeHeld ∙ regions-length w in
     let c = length-append (map entryHeld (machine w .entries)) (map rangeHeld (machine w .regions)) in
     omega arith
-
-past-append : {A : Type 0} (xs ys : List A) (k n : ℕ) (d : A) → length xs ≡ n → n ≤ k → getD (xs ++ ys) k d ≡ getD ys (k - n) d
-past-append [] ys k n d e h = let z : k ≡ k - n = omega arith in ap (λ (i : ℕ). getD ys i d) z
-past-append (x ∷ xs) ys zero n d e h = absurd (omega arith)
-past-append (x ∷ xs) ys (suc k) zero d e h = absurd (omega arith)
-past-append (x ∷ xs) ys (suc k) (suc n) d e h = let z : k - n ≡ suc k - suc n = omega arith in past-append xs ys k n d (omega arith) (omega arith) ∙ ap (λ (i : ℕ). getD ys i d) z
 
 module _ (w : List ℕ) (k : ℕ) (x : Held) where
   pub held-entry : k < 512 → (e : Entry) → e ≡ getD (machine w .entries) k noEntry → x ≡ entryHeld e → x ≡ getD (heldRows (machine w)) k noHeld

@@ -2,29 +2,28 @@
 use mathlib.Core.Path.{_≡_, refl, ap, sym, subst, _∙_}
 use mathlib.Core.Bool.{Bool, true, false, not, _&&_, _||_, cond}
 use mathlib.Core.List.{List, [], _∷_, _++_, map, map-append}
-use Prim.Native.Nat.{ℕ, zero, suc, _+_, _/_, _≤_, _<_, zero-le, suc-le-suc}
+use Prim.Native.Nat.{ℕ, zero, suc, _+_, _/_, _<_, zero-le, suc-le-suc}
 use native.Mathlib.Omega.{arith}
-use lib.ListN.{getD, List·getD-eq-default}
+use lib.ListN.{getD}
 use lib.Dec.{eqb, ltb}
-use borrow.Author.Tests.{eqb-false, lt-ltb, ltb-true, ltb-false, not-true}
+use borrow.Author.Tests.{eqb-false, lt-ltb, not-true}
+use Rattle.laws.specs.ListsLaws.{keep-append}
 use Rattle.laws.specs.Tells.{Tells}
 use Rattle.laws.specs.TellsLaws.{tells-both}
-use Rattle.model.specs.declared.Backing.{Backing}
-use Rattle.laws.specs.Lists.{keep, all}
+use Rattle.laws.specs.Lists.{keep}
 use Rattle.model.specs.Layout.{machine}
-use Rattle.model.specs.Machine.{noEntry, noRegion, noBacking}
+use Rattle.model.specs.Machine.{noEntry, noRegion}
 use Rattle.model.specs.Lookup.{isUsed, isRanged, isShared}
 use Rattle.model.specs.Create.{one}
-use Rattle.model.specs.Backing.{backingAt}
 use Rattle.laws.specs.Tests.{Rows, allPairs}
-use Rattle.laws.specs.TestLaws.{tells-eq, tells-lt, tells-bool, tells-if, tells-as, tells-rows, tells-pairs}
+use Rattle.laws.specs.TestLaws.{tells-eq, tells-lt, tells-bool, tells-if, tells-as, tells-rows, tells-pairs, pairs-kept}
 use Rattle.model.specs.Sound.{Hold, holds, entryHolds, rangeHolds, EntryFits, RegionFits}
 use Rattle.model.specs.SoundTest.{alike}
 use Rattle.model.specs.RecordLaws.{entry-tells, region-tells}
 use Rattle.sound_frames.specs.declared.held.Held.{Held}
 use Rattle.sound_frames.specs.Held.{placeOf, noHeld, entryHeld, rangeHeld, heldRows}
 use Rattle.sound_frames.specs.HeldLaws.{held-length}
-use Rattle.lookup.specs.LookupsLaws.{backings-length}
+use Rattle.lookup.specs.BackedLaws.{backing-row}
 use Rattle.sound_frames.specs.OnePage.{HoldersFit, Alike}
 
 -- ---- holds that fit are the rows that have a frame
@@ -54,33 +53,13 @@ module _ {A : Type 0} (d : A) (u : A → Bool) (frame page shared : A → ℕ) w
       go true p same = let low = lt-ltb (frame a) 256 (fit zero (suc-le-suc zero-le) p) in rw (p, low, low) (ap {B = List Hold} (λ r. holdOf a ∷ r) same)
       go false p same = rw p same
 
-keep-append : {A : Type 0} (u : A → Bool) (l r : List A) → keep u (l ++ r) ≡ keep u l ++ keep u r
-unfolding keep
-keep-append u [] r = refl
-keep-append u (a ∷ l) r = go (u a) (keep-append u l r)
-  where
-    go : (b : Bool) → keep u (l ++ r) ≡ keep u l ++ keep u r → cond b (a ∷ keep u (l ++ r)) (keep u (l ++ r)) ≡ cond b (a ∷ keep u l) (keep u l) ++ keep u r
-    go true e = ap (λ x. a ∷ x) e
-    go false e = e
-
--- a frame that a backing starts at is one of the 256
-has-backing : (w : List ℕ) (f : ℕ) → 1 ≤ backingAt (machine w) f .len → f < 256
-has-backing w f h = go (ltb f 256) refl
-  where
-    go : (b : Bool) → ltb f 256 ≡ b → f < 256
-    go true p = ltb-true f 256 p
-    go false p =
-        let past = ltb-false f 256 p in
-        let none = ap (λ (b : Backing). b .len) (List·getD-eq-default (machine w .backings) noBacking {n = f} (rw backings-length past)) in
-        absurd (omega arith)
-
 module _ (w : List ℕ) (fit : HoldersFit (machine w)) where
   entry-frames : Rows noEntry (machine w .entries) (λ i e. not (eqb (e .owner) 0) ≡ true → e .frame .0 < 256)
   entry-frames i h owned =
       let e = getD (machine w .entries) i noEntry in
       let fits = tells-rows noEntry _ (λ j x. EntryFits (machine w) x) (λ j x. entry-tells (machine w) x) (machine w .entries) .yes (fit .0) i h in
       let len = fits .used (eqb-false (e .owner) 0 (not-true _ owned)) .frame in
-      has-backing w (e .frame .0) (omega arith)
+      backing-row w (e .frame .0) 0 (omega arith)
 
   range-frames : Rows noRegion (machine w .regions) (λ i r. (isUsed r && isRanged r) ≡ true → r .range .0 < 256)
   range-frames i h both =
@@ -90,7 +69,7 @@ module _ (w : List ℕ) (fit : HoldersFit (machine w)) where
       let limits = fits .used (eqb-false (r .kind) 0 (not-true _ (parts .0))) in
       let len = limits .ranged (parts .1) in
       let some = limits .some in
-      has-backing w (r .range .0) (omega arith)
+      backing-row w (r .range .0) 0 (omega arith)
 
   holds-rows : holds (machine w) ≡ map toHold (keep isHeld (heldRows (machine w)))
   unfolding holds entryHolds rangeHolds heldRows
@@ -102,24 +81,6 @@ module _ (w : List ℕ) (fit : HoldersFit (machine w)) where
       ∙ ap (λ l. map toHold l) (sym (keep-append isHeld (map entryHeld (m .entries)) (map rangeHeld (m .regions))))
 
 -- ---- pairs of those that are kept
-
-all-kept : {A B : Type 0} (u : A → Bool) (g : A → B) (p : B → Bool) (l : List A) → all p (map g (keep u l)) ≡ all (λ a. not (u a) || p (g a)) l
-unfolding all keep
-all-kept u g p [] = refl
-all-kept u g p (a ∷ l) = go (u a) (all-kept u g p l)
-  where
-    go : (b : Bool) → all p (map g (keep u l)) ≡ all (λ x. not (u x) || p (g x)) l → all p (map g (cond b (a ∷ keep u l) (keep u l))) ≡ ((not b || p (g a)) && all (λ x. not (u x) || p (g x)) l)
-    go true e = ap (λ t. p (g a) && t) e
-    go false e = e
-
-pairs-kept : {A B : Type 0} (u : A → Bool) (g : A → B) (f : B → B → Bool) (l : List A) → allPairs (λ b. true) f (map g (keep u l)) ≡ allPairs u (λ x y. not (u y) || f (g x) (g y)) l
-unfolding allPairs keep
-pairs-kept u g f [] = refl
-pairs-kept u g f (a ∷ l) = go (u a) (pairs-kept u g f l)
-  where
-    go : (b : Bool) → allPairs (λ x. true) f (map g (keep u l)) ≡ allPairs u (λ x y. not (u y) || f (g x) (g y)) l → allPairs (λ x. true) f (map g (cond b (a ∷ keep u l) (keep u l))) ≡ ((not b || all (λ y. not (u y) || f (g a) (g y)) l) && allPairs u (λ x y. not (u y) || f (g x) (g y)) l)
-    go true e = ap (λ t. t && allPairs (λ x. true) f (map g (keep u l))) (all-kept u g (f (g a)) l) ∙ ap (λ t. all (λ y. not (u y) || f (g a) (g y)) l && t) e
-    go false e = e
 
 abbrev AlikeHolds : Held → Held → Type 0
 AlikeHolds x y = y .frame < 256 → x .frame ≡ y .frame → (x .page ≡ y .page) × (x .shared ≡ y .shared)

@@ -10,7 +10,7 @@ use Rattle.model.specs.Machine.{Machine}
 use Rattle.laws.specs.Tests.{allRows}
 use Rattle.model.specs.Sound.{holdersOf}
 use Rattle.model.specs.Layout.{machine}
-use Rattle.lookup.specs.ScanLaws.{Counted}
+use Rattle.laws.specs.LoopLaws.{Counted}
 use Rattle.sound_frames.specs.Held.{heldRows}
 use Rattle.sound_frames.specs.HeldLaws.{at}
 

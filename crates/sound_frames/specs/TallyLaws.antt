@@ -2,8 +2,8 @@
 use mathlib.Core.Path.{_≡_, refl, ap, sym, subst, _∙_}
 use mathlib.Core.Logic.{_≢_}
 use mathlib.Core.Bool.{Bool, true, false, _&&_, _||_, cond}
-use mathlib.Core.List.{List, [], _∷_}
-use Prim.Native.Nat.{ℕ, suc, _+_, _≤_, _<_}
+use mathlib.Core.List.{List}
+use Prim.Native.Nat.{ℕ, _+_, _≤_, _<_}
 use native.Mathlib.Omega.{arith}
 use native.Mathlib.Decide.{ℕ-discrete}
 use lib.ListN.{getD, set, replicate, length-set, length-replicate, getD-replicate}
@@ -16,17 +16,18 @@ use Rattle.model.specs.Machine.{Machine}
 use Rattle.laws.specs.Tests.{allRows}
 use Rattle.model.specs.Sound.{holdersOf}
 use Rattle.model.specs.SoundTest.{counted, r3b}
-use Rattle.lookup.specs.ScanLaws.{Counted, count-first, count-more, count-all}
+use Rattle.laws.specs.LoopLaws.{Counted, counted-first, counted-more, counted-all}
 use Rattle.sound_frames.specs.declared.held.Held.{Held}
 use Rattle.sound_frames.specs.Held.{noHeld, heldRows}
 use Rattle.sound_frames.specs.HeldLaws.{at, held-length, holders-counted}
 use Rattle.sound_frames.specs.Tally.{Tallied, unheld, freeUnheld, heldTimes, Counts}
+use Rattle.laws.specs.TestLaws.{rows-both}
 
 pub counts-first : (w : List ℕ) → Counts w (replicate 256 0) 0
 counts-first w = record {
   low = omega arith;
   sized = length-replicate {A = ℕ} 256 0;
-  each = λ f h. subst (λ (n : ℕ). Counted (at f) (heldRows (machine w)) 1024 0 n) (sym (getD-replicate 256 f 0 0 h)) (count-first (at f) (heldRows (machine w)) 1024 (held-length w));
+  each = λ f h. subst (λ (n : ℕ). Counted (at f) (heldRows (machine w)) 1024 0 n) (sym (getD-replicate 256 f 0 0 h)) (counted-first (at f) (heldRows (machine w)) 1024 (held-length w));
 }
 
 module _ (w counts : List ℕ) (k : ℕ) (so : Counts w counts k) where
@@ -38,7 +39,7 @@ module _ (w counts : List ℕ) (k : ℕ) (so : Counts w counts k) where
   counts-more h x read l = record { low = omega arith; sized = length-set counts (x .frame) (getD counts (x .frame) 0 + 1) ∙ so .sized; each = λ f i. go f i (ℕ-discrete f (x .frame)) }
     where
       more : (f : ℕ) → f < 256 → (t : ℕ) → t ≡ cond (at f x) 1 0 → Counted (at f) (heldRows (machine w)) 1024 (k + 1) (getD counts f 0 + t)
-      more f i t e = count-more (at f) (heldRows (machine w)) 1024 (held-length w) k (getD counts f 0) (so .each f i) h noHeld x read t e
+      more f i t e = counted-more (at f) (heldRows (machine w)) 1024 (held-length w) k (getD counts f 0) (so .each f i) h noHeld x read t e
 
       go : (f : ℕ) → f < 256 → Dec (f ≡ x .frame) → Counted (at f) (heldRows (machine w)) 1024 (k + 1) (getD (set counts (x .frame) (getD counts (x .frame) 0 + 1)) f 0)
       go f i (yes e) = subst (λ (n : ℕ). Counted (at f) (heldRows (machine w)) 1024 (k + 1) n) (sym same) (more f i 1 (rw (eq-eqb (x .frame) f (sym e))))
@@ -52,13 +53,13 @@ module _ (w counts : List ℕ) (k : ℕ) (so : Counts w counts k) where
 
   -- holder k holds no frame
   pub counts-skip : k < 1024 → (x : Held) → x ≡ getD (heldRows (machine w)) k noHeld → x .frame ≡ 256 → Counts w counts (k + 1)
-  counts-skip h x read none = record { low = omega arith; sized = so .sized; each = λ f i. subst (λ (n : ℕ). Counted (at f) (heldRows (machine w)) 1024 (k + 1) n) (omega arith) (count-more (at f) (heldRows (machine w)) 1024 (held-length w) k (getD counts f 0) (so .each f i) h noHeld x read 0 (rw (ne-eqb (x .frame) f (omega arith)))) }
+  counts-skip h x read none = record { low = omega arith; sized = so .sized; each = λ f i. subst (λ (n : ℕ). Counted (at f) (heldRows (machine w)) 1024 (k + 1) n) (omega arith) (counted-more (at f) (heldRows (machine w)) 1024 (held-length w) k (getD counts f 0) (so .each f i) h noHeld x read 0 (rw (ne-eqb (x .frame) f (omega arith)))) }
 
   pub counts-to : (n : ℕ) → k ≡ n → Counts w counts n
   counts-to n e = subst (λ (j : ℕ). Counts w counts j) e so
 
   pub counts-all : 1024 ≤ k → Tallied (machine w) counts
-  counts-all h f i = count-all (at f) (heldRows (machine w)) 1024 (held-length w) k (getD counts f 0) (so .each f (omega arith)) h ∙ sym (holders-counted (machine w) f i)
+  counts-all h f i = counted-all (at f) (heldRows (machine w)) 1024 (held-length w) k (getD counts f 0) (so .each f (omega arith)) h ∙ sym (holders-counted (machine w) f i)
 
 -- ---- a row's holders
 
@@ -82,18 +83,6 @@ module _ (n : ℕ) (b : Backing) where
         go false = refl
 
 -- ---- all rows
-
--- two tests of every row are one test of both
-rows-both : {A : Type 0} (f g : ℕ → A → Bool) (i : ℕ) (l : List A) → allRows (λ j x. f j x && g j x) i l ≡ (allRows f i l && allRows g i l)
-unfolding allRows
-rows-both f g i [] = refl
-rows-both f g i (x ∷ l) = ap (λ t. (f i x && g i x) && t) (rows-both f g (suc i) l) ∙ swap (f i x) (g i x) (allRows f (suc i) l) (allRows g (suc i) l)
-  where
-    swap : (a b c d : Bool) → ((a && b) && (c && d)) ≡ ((a && c) && (b && d))
-    swap false b c d = refl
-    swap true false true d = refl
-    swap true false false d = refl
-    swap true true c d = refl
 
 -- every row of a machine has the holders that hold it
 abbrev pub heldIn : Machine → ℕ → Backing → Bool

@@ -10,13 +10,12 @@ use borrow.Author.Tests.{leb-true, le-leb, lt-leb, eq-eqb, ne-eqb}
 use Rattle.laws.specs.TellsLaws.{tells-of, tells-same}
 use Rattle.laws.specs.Lists.{all}
 use Rattle.model.specs.Machine.{Machine}
-use Rattle.laws.specs.Tests.{allPairs}
+use Rattle.laws.specs.Tests.{allPairs, later}
 use Rattle.laws.specs.TestLaws.{tells-le}
 use Rattle.model.specs.declared.Process.{Process}
 use Rattle.model.specs.declared.Region.{Region}
 use Rattle.model.specs.Lookup.{segmentEnd, regionsOf, isUsed}
 use Rattle.model.specs.SoundTest.{apartb}
-use Rattle.laws.specs.Rest.{later}
 
 -- R1 of one process
 abbrev pub disjointb : Machine → ℕ → Process → Bool

@@ -2,8 +2,8 @@
 use mathlib.Core.Path.{_≡_, refl, ap, sym, subst, _∙_}
 use mathlib.Core.Logic.{_≢_}
 use mathlib.Core.Bool.{Bool, true, false, not, _||_, _&&_}
-use mathlib.Core.List.{List, [], _∷_}
-use Prim.Native.Nat.{ℕ, suc, _+_, _≤_, _<_}
+use mathlib.Core.List.{List}
+use Prim.Native.Nat.{ℕ, _+_, _≤_, _<_}
 use native.Mathlib.Omega.{arith}
 use lib.ListN.{length, getD, set, take, drop, replicate}
 use lib.Seq.{take-all}
@@ -15,8 +15,8 @@ use Rattle.model.specs.Machine.{Machine, processAt, orderOf}
 use Rattle.model.specs.Lookup.{regionsOf}
 use Rattle.laws.specs.Tests.{allRows, allPairs}
 use Rattle.model.specs.SoundTest.{listedb, pinnedIfDetached, orderedb}
-use Rattle.laws.specs.EveryLaws.{Every, every-first, every-fails, every-more, every-all}
-use Rattle.laws.specs.RestLaws.{all-rows}
+use Rattle.laws.specs.LoopLaws.{Every, every-first, every-fails, every-more, every-all}
+use Rattle.laws.specs.TestLaws.{all-rows, rows-agree}
 use Rattle.laws.specs.FirstRowsLaws.{past-taken}
 use Rattle.sound_lists.specs.Marks.{marked}
 use Rattle.sound_lists.specs.MarksLaws.{Marked, marked-none, marked-more, listed-low, fresh, unmarked-fresh, fresh-rows}
@@ -31,12 +31,6 @@ module _ (mark : ℕ) (r : Region) where
 
   pub unmarked-pinned : r .kind ≢ 0 → mark ≡ 0 → leb 1 (r .pins) ≡ pinnedIfUnmarked mark r
   unmarked-pinned n e = rw (ne-eqb (r .kind) 0 n, eq-eqb mark 0 e)
-
--- tests that agree on every row
-rows-agree : {A : Type 0} (f g : ℕ → A → Bool) (k : ℕ) (l : List A) → ((i : ℕ) (x : A) → i < k + length l → f i x ≡ g i x) → allRows f k l ≡ allRows g k l
-unfolding allRows
-rows-agree f g k [] same = refl
-rows-agree f g k (x ∷ l) same = ap (λ b. b && allRows f (suc k) l) (same k x (omega arith)) ∙ ap (λ b. g k x && b) (rows-agree f g (suc k) l (λ i y h. same i y (omega arith)))
 
 detached-rows : (marks l : List ℕ) (rs : List Region) → length rs ≡ 64 → Marked marks l → allRows (λ s x. pinnedIfUnmarked (getD marks s 0) x) 0 rs ≡ allRows (pinnedIfDetached l) 0 rs
 unfolding pinnedIfDetached

@@ -16,11 +16,11 @@ use Rattle.laws.specs.Lists.{part, all}
 use Rattle.model.specs.Layout.{machine}
 use Rattle.model.specs.Machine.{Machine, noMapping, processAt, mappedOf}
 use Rattle.laws.specs.Tests.{allRows, Rows}
-use Rattle.laws.specs.TestLaws.{tells-eq, tells-lt, tells-unless, tells-as, tells-rows, tells-pairs}
+use Rattle.laws.specs.TestLaws.{tells-eq, tells-lt, tells-unless, tells-as, tells-rows, tells-pairs, all-rows}
 use Rattle.model.specs.SoundLaws.{tells-unit}
 use Rattle.model.specs.SoundTest.{freeMapping, pagedb}
-use Rattle.lookup.specs.LookupsLaws.{part-length, part-at, mapped-length}
-use Rattle.laws.specs.RestLaws.{all-rows}
+use Rattle.laws.specs.ListsLaws.{part-length, part-at}
+use Rattle.lookup.specs.LookupsLaws.{mapped-length}
 use Rattle.laws.specs.FirstRowsLaws.{taken-at, past-taken}
 use Rattle.sound_lists.specs.PageOrder.{below, rising, follows}
 

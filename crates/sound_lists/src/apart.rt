@@ -11,7 +11,7 @@ ghost use Rattle.model.specs.Machine.{noRegion};
 ghost use Rattle.model.specs.Lookup.{pagesFor, regionsOf, isUsed};
 ghost use Rattle.laws.specs.Tests.{allPairs};
 ghost use Rattle.model.specs.SoundTest.{apartb, r1b};
-ghost use Rattle.laws.specs.Rest.{later};
+ghost use Rattle.laws.specs.Tests.{later};
 use address::PAGE_SIZE;
 use model::FREE;
 use model::PROCESSES;

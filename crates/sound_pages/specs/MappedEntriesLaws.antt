@@ -16,11 +16,12 @@ use Rattle.model.specs.declared.Translated.the-variants.{Mapped, NotMapped}
 use Rattle.model.specs.Layout.{machine}
 use Rattle.model.specs.Machine.{Machine, noEntry, noMapping, mappedOf}
 use Rattle.model.specs.Lookup.{rowFound}
-use Rattle.model.specs.LookupLaws.{clash, both-true}
+use Rattle.laws.specs.BoolLaws.{clash, both-true}
 use Rattle.model.specs.Paging.{translate}
+use Rattle.lookup.specs.LookupsLaws.{mapped-length}
 use Rattle.paging.specs.Place.{pageAt, standsAt, rowFor}
 use Rattle.paging.specs.ProcessRows.{rowsOf}
-use Rattle.paging.specs.ProcessRowsLaws.{mapped-rows, mapped-row, mapped-most}
+use Rattle.paging.specs.ProcessRowsLaws.{mapped-row, mapped-most}
 use Rattle.paging.specs.PlaceLaws.{row-inside, translate-missing}
 use Rattle.paging.specs.Order.{Rising}
 use Rattle.paging.specs.OrderLaws.{stands-mapped, translate-by}
@@ -45,7 +46,7 @@ translate-at (x ∷ l) page i h e q = go (eqb (x .page .0) page) refl q i h e (t
     go false p q (suc j) h e ih = ih j (le-of-suc-le-suc h) e q
 
 few : (w : List ℕ) (p : ℕ) → p < 8 → length (mappedOf (machine w) p) ≤ 128
-few w p small = mapped-most (machine w) p small (mapped-rows w)
+few w p small = mapped-most (machine w) p small (mapped-length w)
 
 module _ (w : List ℕ) (p : ℕ) (small : p < 8) (page : ℕ) where
   pub near-row : (i : ℕ) (b : Bool) → b ≡ standsAt (mappedOf (machine w) p) i page → b ≡ true → (i < 128) × RowOf (mappedOf (machine w) p) page (At i)

@@ -1,13 +1,14 @@
 -- Laws of `MappedFit`: r4 and R5 of a mapped page as one test, and what it asks where the page has an entry, a range, or no home.
 use mathlib.Core.Path.{_≡_, refl, ap, sym, subst, _∙_}
 use mathlib.Core.Bool.{Bool, true, false, _&&_, cond}
-use mathlib.Core.List.{List, [], _∷_}
+use mathlib.Core.List.{List}
 use Prim.Native.Nat.{ℕ, zero, suc, _+_, _-_, _≤_, _<_}
 use native.Mathlib.Omega.{arith}
 use native.Mathlib.Numerals.{add-one}
 use lib.ListN.{length, getD}
 use lib.Dec.{eqb, ltb}
 use borrow.Author.Tests.{eq-eqb, eqb-true}
+use Rattle.laws.specs.TestLaws.{rows-agree, rows-both, tells-bool, tells-rows}
 use Rattle.model.specs.declared.Region.{Region}
 use Rattle.model.specs.declared.Mapping.{Mapping}
 use Rattle.model.specs.declared.Found.{Found}
@@ -17,11 +18,10 @@ use Rattle.model.specs.declared.Backed.the-variants.{ByEntry, ByRange, Unbacked
 use Rattle.model.specs.Layout.{machine}
 use Rattle.model.specs.Machine.{Machine, noRegion, noEntry, noMapping, regionAt, rowOf, mappedOf}
 use Rattle.model.specs.Lookup.{isRanged}
-use Rattle.model.specs.LookupLaws.{clash, both-true}
+use Rattle.laws.specs.BoolLaws.{clash, both-true}
 use Rattle.model.specs.Backing.{backing, backingAt, entryFor}
 use Rattle.model.specs.Protect.{holdersBy}
 use Rattle.laws.specs.Tests.{allRows}
-use Rattle.laws.specs.TestLaws.{tells-bool, tells-rows}
 use Rattle.model.specs.Sound.{homeOf, frameBy}
 use Rattle.model.specs.SoundTest.{sameFound, homedb, flagsFit, flaggedb, r4b, r5b}
 use Rattle.laws.specs.TellsLaws.{not-told}
@@ -35,27 +35,11 @@ use Rattle.sound_pages.specs.MappedFit.{fit, allFit, allows, rangeAllows
 
 -- ---- both rules at once
 
-both-rows : {A : Type 0} (f g : ℕ → A → Bool) (k : ℕ) (l : List A) → allRows (λ i x. f i x && g i x) k l ≡ (allRows f k l && allRows g k l)
-unfolding allRows
-both-rows f g k [] = refl
-both-rows f g k (x ∷ l) = ap (λ b. (f k x && g k x) && b) (both-rows f g (suc k) l) ∙ swap (f k x) (g k x) (allRows f (suc k) l) (allRows g (suc k) l)
-  where
-    swap : (a b c d : Bool) → ((a && b) && (c && d)) ≡ ((a && c) && (b && d))
-    swap true true c d = refl
-    swap true false true d = refl
-    swap true false false d = refl
-    swap false b c d = refl
-
-same-rows : {A : Type 0} (f g : ℕ → A → Bool) → ((i : ℕ) (x : A) → f i x ≡ g i x) → (k : ℕ) (l : List A) → allRows f k l ≡ allRows g k l
-unfolding allRows
-same-rows f g e k [] = refl
-same-rows f g e k (x ∷ l) = ap (λ b. b && allRows f (suc k) l) (e k x) ∙ ap (λ b. g k x && b) (same-rows f g e (suc k) l)
-
 pub all-fit-rules : (m : Machine) → allRows (λ p q. allFit m p) 0 (m .processes) ≡ (r4b m && r5b m)
 unfolding r4b r5b
 all-fit-rules m =
-    same-rows (λ p q. allFit m p) (λ p q. allRows (λ i x. homedb m p x) 0 (mappedOf m p) && allRows (λ i x. flagsFit m p x) 0 (mappedOf m p)) (λ p q. both-rows (λ i x. homedb m p x) (λ i x. flagsFit m p x) 0 (mappedOf m p)) 0 (m .processes)
-    ∙ both-rows (λ p q. allRows (λ i x. homedb m p x) 0 (mappedOf m p)) (λ p q. allRows (λ i x. flagsFit m p x) 0 (mappedOf m p)) 0 (m .processes)
+    rows-agree (λ p q. allFit m p) (λ p q. allRows (λ i x. homedb m p x) 0 (mappedOf m p) && allRows (λ i x. flagsFit m p x) 0 (mappedOf m p)) 0 (m .processes) (λ p q _. rows-both (λ i x. homedb m p x) (λ i x. flagsFit m p x) 0 (mappedOf m p))
+    ∙ rows-both (λ p q. allRows (λ i x. homedb m p x) 0 (mappedOf m p)) (λ p q. allRows (λ i x. flagsFit m p x) 0 (mappedOf m p)) 0 (m .processes)
 
 -- a row that does not fit: not all do
 pub one-misfits : (m : Machine) (p i : ℕ) → i < length (mappedOf m p) → fit m p (getD (mappedOf m p) i noMapping) ≡ false → allFit m p ≡ false

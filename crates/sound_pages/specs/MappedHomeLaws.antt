@@ -17,11 +17,13 @@ use Rattle.laws.specs.Lists.{keep, among}
 use Rattle.model.specs.Layout.{machine}
 use Rattle.model.specs.Machine.{noRegion, regionAt, rowOf, orderOf, userEnd}
 use Rattle.model.specs.Lookup.{firstSlot, contains, spanEnd, segmentEnd, regionsOf, regionFor}
-use Rattle.model.specs.LookupLaws.{clash, both-true, first-found, first-none}
+use Rattle.laws.specs.BoolLaws.{clash, both-true}
+use Rattle.model.specs.LookupLaws.{first-found, first-none}
 use Rattle.model.specs.Paging.{pageStart}
 use Rattle.model.specs.PopulateSoundLaws.{place-of}
 use Rattle.model.specs.Sound.{Used, Apart, homes, only}
-use Rattle.lookup.specs.LookupsLaws.{processes-length, regions-length, slots-length, part-at}
+use Rattle.lookup.specs.LookupsLaws.{processes-length, regions-length, slots-length}
+use Rattle.laws.specs.ListsLaws.{part-at}
 use Rattle.sound_pages.specs.Laid.{Laid}
 use Rattle.sound_pages.specs.MappedHome.{homeAt}
 

@@ -17,7 +17,7 @@ use Rattle.model.specs.declared.Found.the-variants.{At, Nothing}
 use Rattle.model.specs.Layout.{machine}
 use Rattle.model.specs.Machine.{Machine, noRegion, noEntry, noMapping, regionAt, rowOf, mappedOf}
 use Rattle.model.specs.Lookup.{contains}
-use Rattle.model.specs.LookupLaws.{clash, both-true}
+use Rattle.laws.specs.BoolLaws.{clash, both-true}
 use Rattle.model.specs.Paging.{pageStart}
 use Rattle.model.specs.Sound.{Used, Entered, homeOf}
 use Rattle.lookup.specs.Lookups.{entryOf}

@@ -12,7 +12,7 @@ use lib.Dec.{ltb, leb}
 use borrow.Author.Tests.{ltb-true, leb-true}
 use Rattle.model.specs.declared.Entry.{Entry}
 use Rattle.model.specs.Machine.{Machine}
-use Rattle.model.specs.LookupLaws.{both-true}
+use Rattle.laws.specs.BoolLaws.{both-true}
 use Rattle.sound_pages.specs.MappedMarks.{ofProcess, Seen}
 use Rattle.sound_pages.specs.MappedSpans.{entry, ProcessOf, Spanned, Spans, Unspanned}
 

@@ -1,19 +1,19 @@
 -- Laws of `MappedTests`: the ways through the tests of one mapping: its flags, what an entry allows, what a range allows.
-use mathlib.Core.Path.{_≡_, refl, ap, sym, _∙_}
+use mathlib.Core.Path.{_≡_, ap, sym, _∙_}
 use mathlib.Core.Logic.{_≢_}
-use mathlib.Core.Bool.{Bool, true, false, not, _&&_, _||_}
+use mathlib.Core.Bool.{Bool, true, false, not, _||_, and-true}
 use Prim.Native.Nat.{ℕ, _+_, _-_, _*_, _≤_, _<_}
 use native.Mathlib.Omega.{arith}
 use lib.ListN.{getD}
 use lib.Dec.{eqb, ltb, leb}
 use borrow.Author.Tests.{ltb-true, leb-true, lt-ltb, le-ltb, eq-eqb, ne-eqb}
+use Rattle.laws.specs.BoolLaws.{both-true}
 use Rattle.address.specs.Flags.{readOnly}
 use Rattle.model.specs.declared.Region.{Region}
 use Rattle.model.specs.declared.Mapping.{Mapping}
 use Rattle.model.specs.declared.Entry.{Entry}
 use Rattle.model.specs.declared.Backing.{Backing}
 use Rattle.model.specs.Machine.{Machine, noRegion}
-use Rattle.model.specs.LookupLaws.{both-true}
 use Rattle.model.specs.Paging.{isWritable, allFour}
 use Rattle.model.specs.Backing.{backingAt}
 use Rattle.model.specs.SoundTest.{flaggedb}
@@ -41,11 +41,7 @@ module _ (r : Region) (flags holders : ℕ) where
 
     pub writable-flags : isOwn (r .flags .0) flags ≡ true → isWritable flags ≡ true → eqb holders 1 ≡ flaggedb r flags holders
     unfolding flaggedb
-    writable-flags e f = rw (ne-eqb (r .kind) 3 private, e, f) (last (eqb holders 1))
-      where
-        last : (b : Bool) → b ≡ (b && true)
-        last true = refl
-        last false = refl
+    writable-flags e f = rw (ne-eqb (r .kind) 3 private, e, f) (sym (and-true (eqb holders 1)))
 
     pub fixed-flags : isOwn (r .flags .0) flags ≡ true → isWritable flags ≡ false → true ≡ flaggedb r flags holders
     unfolding flaggedb

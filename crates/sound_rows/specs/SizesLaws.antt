@@ -12,7 +12,8 @@ use Rattle.model.specs.Machine.{Machine, State}
 use Rattle.laws.specs.Tests.{allRows}
 use Rattle.model.specs.SoundTest.{sizedb, fileFits, freeFile}
 use Rattle.lookup.specs.LookupsLaws.{processes-length, regions-length, entries-length, order-length, mapped-length, backings-length, files-length}
-use Rattle.sound_rows.specs.Sizes.{sizesFit, isLent, fileFitsIn}
+use Rattle.rows.specs.FileRow.{isLent}
+use Rattle.sound_rows.specs.Sizes.{sizesFit, fileFitsIn}
 
 module _ (m : Machine) (n frames : ℕ) (counted : frames ≡ m .frameCount) where
   pub too-many-frames : 256 < frames → false ≡ sizesFit m n
@@ -35,7 +36,7 @@ unfolding sizedb sizesFit
 sized-is w s e = rw (e, eq-eqb _ 8 (processes-length w), eq-eqb _ 512 (regions-length w), eq-eqb _ 512 (order-length w), eq-eqb _ 1024 (mapped-length w), eq-eqb _ 512 (entries-length w), eq-eqb _ 256 (backings-length w), eq-eqb _ 8 (files-length w))
 
 files-fit-in : (s : State) → allRows (fileFits s) 0 (s .machine .files) ≡ allRows (fileFitsIn (s .machine .fileCount) (length (s .bytes))) 0 (s .machine .files)
-unfolding fileFits fileFitsIn isLent
+unfolding fileFits fileFitsIn
 files-fit-in s = refl
 
 -- what `files_fit` tells of every state of these words

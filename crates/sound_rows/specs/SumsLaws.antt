@@ -4,9 +4,8 @@ use mathlib.Core.Bool.{true, false}
 use Prim.Native.Nat.{ℕ, _+_, _-_, _*_, _%_, _≤_, _<_}
 use native.Mathlib.Omega.{arith}
 use lib.Dec.{leb}
-use borrow.Author.Tests.{le-leb, lt-leb, leb-true}
+use borrow.Author.Tests.{le-leb, lt-leb}
 use Rattle.model.specs.Lookup.{pagesFor}
-use Rattle.laws.specs.TestChainLaws.{instead}
 
 module _ (a b e : ℕ) where
   pub sum-past : e < a → leb (a + b) e ≡ false
@@ -17,12 +16,6 @@ module _ (a b e : ℕ) where
 
   pub sum-within : a ≤ e → b ≤ e - a → leb (a + b) e ≡ true
   sum-within h l = le-leb (a + b) e (omega arith)
-
-  pub sum-same : a ≤ e → leb b (e - a) ≡ leb (a + b) e
-  sum-same h = instead (λ t. sum-within h (leb-true b (e - a) t)) rest
-    where
-      rest : leb (a + b) e ≡ true → leb b (e - a) ≡ true
-      rest t = let l = leb-true (a + b) e t in le-leb b (e - a) (omega arith)
 
 -- .. and of a size rounded up to pages; between two page starts the rounding changes nothing
 module _ (a n e : ℕ) where

@@ -5,7 +5,7 @@ ghost use lib.ListN.{length};
 ghost use Rattle.model.specs.Layout.{wordCount, machine};
 ghost use Rattle.laws.specs.Tests.{allRows};
 ghost use Rattle.model.specs.SoundTest.{freeFile};
-ghost use Rattle.sound_rows.specs.Sizes.{sizesFit, isLent, fileFitsIn};
+ghost use Rattle.sound_rows.specs.Sizes.{sizesFit, fileFitsIn};
 use model::FILES;
 use model::FRAME_BYTES;
 use model::FRAMES;
@@ -13,6 +13,7 @@ use model::File;
 use rows::backings::frame_count;
 use rows::files::file_at;
 use rows::files::file_count;
+use rows::files::is_lent;
 
 // Whether the counts fit their tables, and the frame bytes the count of frames.
 pub fn sized(words: &[u64], frames: usize) -> bool
@@ -55,20 +56,6 @@ fn file_fits(count: usize, bytes: usize, i: usize, row: File) -> bool
         return is_lent(row, bytes);
     }
     is_free_file(row)
-}
-
-// Whether a file's bytes lie in the lent ones; offset plus length may be too large a sum.
-fn is_lent(row: File, bytes: usize) -> bool
-    ensures { λ r. ⌜ r ≡ isLent bytes row ⌝ }
-{
-    if 1 < row.readable {
-        return false;
-    }
-    let all = bytes as u64;
-    if all < row.offset {
-        return false;
-    }
-    row.len <= all - row.offset
 }
 
 // Whether a file's words are all 0.

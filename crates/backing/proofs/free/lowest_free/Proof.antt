@@ -4,14 +4,13 @@ use native.Mathlib.Omega.{arith}
 use borrow.Author.Needs.{needs}
 use Rattle.model.specs.Layout.{machine}
 use Rattle.backing.specs.BackingSteps.{framed}
-use Rattle.backing.specs.FreeSearchLaws.{Sought, seek-first, seek-found, seek-more, seek-none}
+use Rattle.backing.specs.FreeSearchLaws.{LowestSought, seek-first, seek-found, seek-more, seek-none}
 use Rattle.backing.specs.BackingWayLaws.{framed-row}
-use borrow.Author.Needs.{needs}
 use Rattle.backing.proofs.free.lowest_free.Statement.{statement}
 use Rattle.backing.proofs.free.lowest_free.Tie as tie
 
 abbrev Inv-loop : tie.InvT-loop
-Inv-loop words rows covered₀ i₀ covered i = Sought i₀ (framed (machine words)) rows i covered
+Inv-loop words rows covered₀ i₀ covered i = LowestSought i₀ (framed (machine words)) rows i covered
 
 abbrev μ-loop : tie.MeasureT-loop
 μ-loop words rows covered₀ i₀ covered i = rows - i

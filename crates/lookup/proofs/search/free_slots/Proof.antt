@@ -5,7 +5,7 @@ use borrow.Author.Needs.{needs}
 use Rattle.model.specs.Layout.{machine}
 use Rattle.model.specs.Machine.{noRegion}
 use Rattle.model.specs.Lookup.{regionsOf, freeSlots}
-use Rattle.lookup.specs.ScanLaws.{Counted, count-first, count-more, count-all}
+use Rattle.laws.specs.LoopLaws.{Counted, counted-first, counted-more, counted-all}
 use Rattle.lookup.specs.LookupsLaws.{freeRegion, slots-length, slot-at}
 use Rattle.lookup.proofs.search.free_slots.Statement.{statement}
 use Rattle.lookup.proofs.search.free_slots.Tie as tie
@@ -17,7 +17,7 @@ abbrev μ-loop : tie.MeasureT-loop
 μ-loop words process n₀ i₀ n i = 64 - i
 
 loop-holds : tie.Need-loop-holds Inv-loop μ-loop
-loop-holds c = let w = c .before .args .words .now in let p = c .before .args .process in count-first freeRegion (regionsOf (machine w) p) 64 (slots-length w p (c .before .pre .1))
+loop-holds c = let w = c .before .args .words .now in let p = c .before .args .process in counted-first freeRegion (regionsOf (machine w) p) 64 (slots-length w p (c .before .pre .1))
 
 mul-region-at : tie.Need-mul-region-at Inv-loop μ-loop
 mul-region-at c = omega arith
@@ -41,11 +41,11 @@ loop-less : tie.Need-loop-less Inv-loop μ-loop
 loop-less c = omega arith
 
 loop-again : tie.Need-loop-again Inv-loop μ-loop
-loop-again c = let w = c .before .before .before .before .before .args .words .now in let p = c .before .before .before .before .before .args .process in count-more freeRegion (regionsOf (machine w) p) 64 (slots-length w p (c .before .before .before .before .before .pre .1)) _ _ (c .before .before .before .loop .inv) (c .before .before .loop-test .taken) noRegion _ (slot-at w p _ _ (c .before .before .loop-test .taken) (c .before .region-at .ensures)) _ (c .one-if-zero .ensures .0)
+loop-again c = let w = c .before .before .before .before .before .args .words .now in let p = c .before .before .before .before .before .args .process in counted-more freeRegion (regionsOf (machine w) p) 64 (slots-length w p (c .before .before .before .before .before .pre .1)) _ _ (c .before .before .before .loop .inv) (c .before .before .loop-test .taken) noRegion _ (slot-at w p _ _ (c .before .before .loop-test .taken) (c .before .region-at .ensures)) _ (c .one-if-zero .ensures .0)
 
 returns : tie.Need-returns Inv-loop μ-loop
 unfolding freeSlots
-returns c = let w = c .before .before .before .args .words .now in let p = c .before .before .before .args .process in count-all freeRegion (regionsOf (machine w) p) 64 (slots-length w p (c .before .before .before .pre .1)) _ _ (c .before .loop .inv) (c .loop-test .left)
+returns c = let w = c .before .before .before .args .words .now in let p = c .before .before .before .args .process in counted-all freeRegion (regionsOf (machine w) p) 64 (slots-length w p (c .before .before .before .pre .1)) _ _ (c .before .loop .inv) (c .loop-test .left)
 
 pub free-slots-spec : {M : Type 1} → statement M
 free-slots-spec =

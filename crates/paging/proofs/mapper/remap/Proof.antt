@@ -2,7 +2,8 @@
 use mathlib.Core.Path.{sym, _∙_}
 use Rattle.model.specs.Layout.{machine}
 use Rattle.model.specs.Machine.{mappedOf}
-use Rattle.paging.specs.ProcessRowsLaws.{mapped-rows, mapped-most}
+use Rattle.lookup.specs.LookupsLaws.{mapped-length}
+use Rattle.paging.specs.ProcessRowsLaws.{mapped-most}
 use Rattle.paging.specs.PlaceLaws.{row-inside}
 use Rattle.paging.specs.MapperStepLaws.{remap-found, remap-no-row}
 use borrow.Author.Needs.{needs}
@@ -32,7 +33,7 @@ row-at-requires c κs =
     let w = given .words .now in
     let p = given .process in
     let inside = row-inside (mappedOf (machine w) p) (given .page .0) (c .before .before .at .given .0 .0) (sym (c .before .before .at .given .1) ∙ c .before .before .before .before .row-for .ensures) in
-    let most = mapped-most (machine w) p (c .before .before .before .before .before .before .before .pre .1) (mapped-rows w) in
+    let most = mapped-most (machine w) p (c .before .before .before .before .before .before .before .pre .1) (mapped-length w) in
     search needs
 
 put-row-requires : tie.Need-put-row-requires
@@ -41,7 +42,7 @@ put-row-requires c κs =
     let w = given .words .now in
     let p = given .process in
     let inside = row-inside (mappedOf (machine w) p) (given .page .0) (c .before .before .before .before .at .given .0 .0) (sym (c .before .before .before .before .at .given .1) ∙ c .before .before .before .before .before .before .row-for .ensures) in
-    let most = mapped-most (machine w) p (c .before .before .before .before .before .before .before .before .before .pre .1) (mapped-rows w) in
+    let most = mapped-most (machine w) p (c .before .before .before .before .before .before .before .before .before .pre .1) (mapped-length w) in
     search needs
 
 same-length-2 : tie.Need-same-length-2

@@ -2,7 +2,8 @@
 use mathlib.Core.Path.{_∙_}
 use native.Mathlib.Omega.{arith}
 use Rattle.model.specs.Layout.{machine}
-use Rattle.paging.specs.ProcessRowsLaws.{mapped-rows, set-row}
+use Rattle.lookup.specs.LookupsLaws.{mapped-length}
+use Rattle.paging.specs.ProcessRowsLaws.{set-row}
 use borrow.Author.Needs.{needs}
 use Rattle.paging.proofs.mappings.put_row.Statement.{statement}
 use Rattle.paging.proofs.mappings.put_row.Tie as tie
@@ -23,7 +24,7 @@ returns : tie.Need-returns
 returns c =
     let given = c .before .before .before .before .before .args in
     let w = given .words .now in
-    c .before .before .put-mapping .ensures ∙ set-row (machine w) (given .process) (given .i) (given .row) (omega arith) (omega arith) (mapped-rows w)
+    c .before .before .put-mapping .ensures ∙ set-row (machine w) (given .process) (given .i) (given .row) (omega arith) (omega arith) (mapped-length w)
 
 pub put-row-spec : {M : Type 1} → statement M
 put-row-spec =

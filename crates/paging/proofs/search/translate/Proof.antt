@@ -2,7 +2,8 @@
 use mathlib.Core.Path.{sym, _∙_}
 use Rattle.model.specs.Layout.{machine}
 use Rattle.model.specs.Machine.{mappedOf}
-use Rattle.paging.specs.ProcessRowsLaws.{mapped-rows, mapped-row, mapped-most}
+use Rattle.lookup.specs.LookupsLaws.{mapped-length}
+use Rattle.paging.specs.ProcessRowsLaws.{mapped-row, mapped-most}
 use Rattle.paging.specs.PlaceLaws.{row-inside, translate-found, translate-missing}
 use borrow.Author.Needs.{needs}
 use Rattle.paging.proofs.search.translate.Statement.{statement}
@@ -28,7 +29,7 @@ row-at-requires c κs =
     let w = given .words .now in
     let p = given .process in
     let inside = row-inside (mappedOf (machine w) p) (given .page .0) (c .before .at .given .0 .0) (sym (c .before .at .given .1) ∙ c .before .before .before .row-for .ensures) in
-    let most = mapped-most (machine w) p (c .before .before .before .before .before .pre .1) (mapped-rows w) in
+    let most = mapped-most (machine w) p (c .before .before .before .before .before .pre .1) (mapped-length w) in
     search needs
 
 returns-2 : tie.Need-returns-2

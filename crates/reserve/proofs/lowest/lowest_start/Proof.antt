@@ -1,9 +1,10 @@
 -- `lowest_start` searches the process's sorted segments, over its arena.
 use mathlib.Core.Path.{ap, _∙_}
 use native.Mathlib.Omega.{arith}
+use Rattle.segments.specs.CallLaws.{ahead-most}
 use Rattle.model.specs.Layout.{machine}
 use Rattle.model.specs.Segments.{foundStart}
-use Rattle.reserve.specs.LowestLaws.{few-ahead, lowest-empty, lowest-large, lowest-searched, arena-ends}
+use Rattle.reserve.specs.LowestLaws.{lowest-empty, lowest-large, lowest-searched, arena-ends}
 use borrow.Author.Needs.{needs}
 use Rattle.reserve.proofs.lowest.lowest_start.Statement.{statement}
 use Rattle.reserve.proofs.lowest.lowest_start.Tie as tie
@@ -42,7 +43,7 @@ slice-aggregate-lowest-start : tie.Need-slice-aggregate-lowest-start
 slice-aggregate-lowest-start c = search needs
 
 lowest-start-requires : tie.Need-lowest-start-requires
-lowest-start-requires c κs = (let k = c .before .before .before .before .segments-of .kept .0 in let e = c .before .before .before .before .segments-of .ensures .0 in omega arith, (omega (arith, c .before .before .before .before .before .before .before .before .before .before .before .if1 .left), few-ahead _ _ _))
+lowest-start-requires c κs = (let k = c .before .before .before .before .segments-of .kept .0 in let e = c .before .before .before .before .segments-of .ensures .0 in omega arith, (omega (arith, c .before .before .before .before .before .before .before .before .before .before .before .if1 .left), ahead-most _ _ _))
 
 found-start-requires : tie.Need-found-start-requires
 found-start-requires c κs = search needs

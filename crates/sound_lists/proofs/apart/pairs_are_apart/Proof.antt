@@ -8,10 +8,10 @@ use Rattle.model.specs.Layout.{machine}
 use Rattle.model.specs.Machine.{noRegion}
 use Rattle.model.specs.Lookup.{regionsOf, isUsed}
 use Rattle.model.specs.SoundTest.{apartb}
-use Rattle.laws.specs.EveryLaws.{Every, every-first, every-fails, every-more, every-all}
+use Rattle.laws.specs.LoopLaws.{Every, every-first, every-fails, every-more, every-all}
 use Rattle.lookup.specs.LookupsLaws.{slots-length}
-use Rattle.laws.specs.Rest.{later}
-use Rattle.laws.specs.RestLaws.{pairs-rows}
+use Rattle.laws.specs.Tests.{later}
+use Rattle.laws.specs.TestLaws.{pairs-rows}
 use Rattle.sound_lists.proofs.apart.pairs_are_apart.Statement.{statement}
 use Rattle.sound_lists.proofs.apart.pairs_are_apart.Tie as tie
 

@@ -5,7 +5,7 @@ use Rattle.model.specs.Layout.{machine}
 use Rattle.model.specs.Lookup.{regionsOf, isUsed}
 use Rattle.model.specs.SoundTest.{apartb}
 use Rattle.lookup.specs.LookupsLaws.{slot-at}
-use Rattle.laws.specs.Rest.{later}
+use Rattle.laws.specs.Tests.{later}
 use Rattle.sound_lists.specs.ApartLaws.{later-free, later-used}
 use borrow.Author.Needs.{needs}
 use Rattle.sound_lists.proofs.apart.slot_is_apart.Statement.{statement}

@@ -1,13 +1,13 @@
--- What a search through rows finds: a row of the list that passes the test; and rows counted in two lists.
+-- What a search through rows finds: a row of the list that passes the test.
 use mathlib.Core.Path.{_≡_, refl, ap, _∙_}
 use mathlib.Core.Bool.{Bool, true, false, cond}
-use mathlib.Core.List.{List, [], _∷_, _++_}
+use mathlib.Core.List.{List, [], _∷_}
 use Prim.Native.Nat.{ℕ, suc, _+_, _-_, _≤_, _<_}
 use native.Mathlib.Omega.{arith}
 use lib.ListN.{length, getD}
 use Rattle.model.specs.declared.Found.the-variants.{At}
-use Rattle.model.specs.Lookup.{firstRow, count}
+use Rattle.model.specs.Lookup.{firstRow}
 use Rattle.model.specs.LookupLaws.{never-found, same-slot}
 
 -- where the list's first row is row i
 first-from : {A : Type 0} (f : A → Bool) (l : List A) (i j : ℕ) (d : A) → firstRow f l i ≡ At j → ((i ≤ j) × (j < i + length l)) × (f (getD l (j - i) d) ≡ true)
@@ -33,12 +33,3 @@ first-found f l j d e =
     let high = found .0 .1 in
     let same : j ≡ j - 0 = omega arith in
     (omega arith, ap (λ (k : ℕ). f (getD l k d)) same ∙ found .1)
-
-pub count-append : {A : Type 0} (p : A → Bool) (l k : List A) → count p (l ++ k) ≡ count p l + count p k
-unfolding count
-count-append p [] k = omega arith
-count-append p (x ∷ l) k = go (p x) (count-append p l k)
-  where
-    go : (b : Bool) → count p (l ++ k) ≡ count p l + count p k → cond b (count p (l ++ k) + 1) (count p (l ++ k)) ≡ cond b (count p l + 1) (count p l) + count p k
-    go true e = omega arith
-    go false e = e

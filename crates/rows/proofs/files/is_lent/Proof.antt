@@ -1,8 +1,8 @@
--- `file_fits`: one law for each test that decides.
-use Rattle.process.specs.StartLaws.{unreadable, too-long, file-placed}
+-- `is_lent`: one law for each test that decides.
+use Rattle.rows.specs.FileRowLaws.{unreadable, too-long, file-placed}
 use borrow.Author.Needs.{needs}
-use Rattle.process.proofs.start.file_fits.Statement.{statement}
-use Rattle.process.proofs.start.file_fits.Tie as tie
+use Rattle.rows.proofs.files.is_lent.Statement.{statement}
+use Rattle.rows.proofs.files.is_lent.Tie as tie
 
 returns : tie.Need-returns
 returns c = unreadable _ (c .before .before .args .file) (c .if1 .taken)
@@ -16,5 +16,5 @@ sub-result c = search needs
 returns-3 : tie.Need-returns-3
 returns-3 c = file-placed _ (c .before .before .before .before .before .before .args .file) (c .before .before .before .before .if1 .left) (c .before .before .if2 .left)
 
-pub file-fits-spec : {M : Type 1} → statement M
-file-fits-spec = tie.close (tie.spec returns returns-2 sub-result returns-3)
+pub is-lent-spec : {M : Type 1} → statement M
+is-lent-spec = tie.close (tie.spec returns returns-2 sub-result returns-3)
