@@ -1,4 +1,4 @@
--- The lowest free start of a process's arena, one law for each way through the code.
+-- What the search for the lowest free start of a process's arena leans on: every process's row fits.
 use mathlib.Core.Path.{_≡_}
 use mathlib.Core.Bool.{true}
 use Rattle.model.specs.Machine.{Machine}
