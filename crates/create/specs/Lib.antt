@@ -1,6 +1,6 @@
 -- What creation is proved by: refusals test by test, the plan, and what making it leaves.
-pub mod Refused
-pub mod RefusedLaws
+pub mod RequestRefused
+pub mod RequestRefusedLaws
 pub mod Plans
 pub mod PlansLaws
 pub mod ReadyLaws

@@ -24,7 +24,7 @@ use Rattle.create.specs.declared.plan.Plan.{Plan}
 use Rattle.create.specs.declared.plan.Planned.{Planned}
 use Rattle.create.specs.declared.plan.Planned.the-variants.{Go}
 use Rattle.lookup.specs.FirstOfLaws.{first-here, first-later, first-none, first-passed, no-refusal}
-use Rattle.create.specs.Refused.{requestRefusals}
+use Rattle.create.specs.RequestRefused.{requestRefusals}
 use Rattle.create.specs.Plans.{runFor, searchRefusals, frameFound, planFor, unlessRefused, foundPlan, searched, planned, PlanFits}
 
 -- ---- a run

@@ -17,7 +17,7 @@ use Rattle.rows.specs.LentMemory.{stateOf, SoundWords, SoundFrames}
 use Rattle.lookup.specs.LookupsLaws.{processes-length}
 use Rattle.backing.specs.BackingLaws.{Ready, sound-ready}
 use Rattle.reserve.specs.SortedSegments.{RegionsFit}
-use Rattle.reserve.specs.Lowest.{ProcessesFit}
+use Rattle.reserve.specs.LowestSpot.{ProcessesFit}
 
 pub frames-words : {w f : List ℕ} → SoundFrames w f → SoundWords w
 frames-words {w} {f} s = record { frames = f; files = s .files; sound = s .sound }

@@ -5,7 +5,7 @@ ghost use lib.ListN.{length};
 ghost use Rattle.model.specs.Layout.{wordCount, machine};
 ghost use Rattle.model.specs.Answers.{firstOf};
 ghost use Rattle.model.specs.Create.{badStart, badPlace, badSize};
-ghost use Rattle.create.specs.Refused.{badRange, badFlags, fileMissing, requestRefusals};
+ghost use Rattle.create.specs.RequestRefused.{badRange, badFlags, fileMissing, requestRefusals};
 use address::CheckedFlags;
 use address::PageTableFlags;
 use address::USER_END;

@@ -3,5 +3,5 @@ pub mod InTheWay
 pub mod InTheWayLaws
 pub mod SortedSegments
 pub mod SortedSegmentsLaws
-pub mod Lowest
-pub mod LowestLaws
+pub mod LowestSpot
+pub mod LowestSpotLaws

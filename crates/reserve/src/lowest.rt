@@ -6,7 +6,7 @@ ghost use Rattle.model.specs.Layout.{wordCount, machine};
 ghost use Rattle.model.specs.Segments.{foundStart, lowestStart};
 ghost use Rattle.model.specs.Create.{spot};
 ghost use Rattle.reserve.specs.SortedSegments.{RegionsFit};
-ghost use Rattle.reserve.specs.Lowest.{ProcessesFit, foundSpot};
+ghost use Rattle.reserve.specs.LowestSpot.{ProcessesFit, foundSpot};
 use crate::sorted::segments_of;
 use crate::taken::reserved;
 use address::VirtAddr;

@@ -2,7 +2,7 @@
 use mathlib.Core.Path.{sym, _∙_}
 use Rattle.model.specs.Layout.{machine}
 use Rattle.lookup.specs.FirstOfLaws.{open-small}
-use Rattle.create.specs.RefusedLaws.{request-open, request-size}
+use Rattle.create.specs.RequestRefusedLaws.{request-open, request-size}
 use Rattle.create.specs.PlansLaws.{plan-refused, plan-searched}
 use borrow.Author.Needs.{needs}
 use Rattle.create.proofs.plan.plan_for.Statement.{statement}

@@ -1,6 +1,6 @@
 -- `has_bad_flags`: a Shared region has none, else the checked construction tells.
 use mathlib.Core.Path.{sym, _∙_}
-use Rattle.create.specs.RefusedLaws.{flags-shared, flags-good, flags-bad}
+use Rattle.create.specs.RequestRefusedLaws.{flags-shared, flags-good, flags-bad}
 use borrow.Author.Needs.{needs}
 use Rattle.create.proofs.refusals.has_bad_flags.Statement.{statement}
 use Rattle.create.proofs.refusals.has_bad_flags.Tie as tie

@@ -1,7 +1,7 @@
 -- `is_bad_place`: one law for each way; the end is compared with no sum.
 use mathlib.Core.Path.{sym, _∙_}
 use borrow.Author.Tests.{not-true, not-false}
-use Rattle.create.specs.RefusedLaws.{place-unaligned, place-past, place-ends}
+use Rattle.create.specs.RequestRefusedLaws.{place-unaligned, place-past, place-ends}
 use borrow.Author.Needs.{needs}
 use Rattle.create.proofs.refusals.is_bad_place.Statement.{statement}
 use Rattle.create.proofs.refusals.is_bad_place.Tie as tie

@@ -1,5 +1,5 @@
 -- `is_bad_range`: the size passes its limits, or the place decides.
-use Rattle.create.specs.RefusedLaws.{range-size, range-fits, range-place}
+use Rattle.create.specs.RequestRefusedLaws.{range-size, range-fits, range-place}
 use borrow.Author.Needs.{needs}
 use Rattle.create.proofs.refusals.is_bad_range.Statement.{statement}
 use Rattle.create.proofs.refusals.is_bad_range.Tie as tie

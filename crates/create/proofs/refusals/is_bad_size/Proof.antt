@@ -1,5 +1,5 @@
 -- `is_bad_size`: one law for each limit.
-use Rattle.create.specs.RefusedLaws.{size-zero, size-large, offset-large, length-left}
+use Rattle.create.specs.RequestRefusedLaws.{size-zero, size-large, offset-large, length-left}
 use Rattle.create.proofs.refusals.is_bad_size.Statement.{statement}
 use Rattle.create.proofs.refusals.is_bad_size.Tie as tie
 

@@ -1,5 +1,5 @@
 -- `is_bad_start`: no start is given, or one that is a user address or not.
-use Rattle.create.specs.RefusedLaws.{start-given}
+use Rattle.create.specs.RequestRefusedLaws.{start-given}
 use borrow.Author.Needs.{needs}
 use Rattle.create.proofs.refusals.is_bad_start.Statement.{statement}
 use Rattle.create.proofs.refusals.is_bad_start.Tie as tie

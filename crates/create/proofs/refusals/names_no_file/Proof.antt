@@ -1,6 +1,6 @@
 -- `names_no_file`: only a FileBacked region names one, by a number below the count.
 use Rattle.model.specs.Layout.{machine}
-use Rattle.create.specs.RefusedLaws.{file-none, file-counted}
+use Rattle.create.specs.RequestRefusedLaws.{file-none, file-counted}
 use borrow.Author.Needs.{needs}
 use Rattle.create.proofs.refusals.names_no_file.Statement.{statement}
 use Rattle.create.proofs.refusals.names_no_file.Tie as tie

@@ -2,7 +2,7 @@
 use mathlib.Core.Path.{sym, _∙_}
 use borrow.Author.Tests.{not-true, not-false}
 use Rattle.model.specs.Layout.{machine}
-use Rattle.create.specs.RefusedLaws.{request-closed, request-start, request-range, request-flags, request-file, request-fine}
+use Rattle.create.specs.RequestRefusedLaws.{request-closed, request-start, request-range, request-flags, request-file, request-fine}
 use borrow.Author.Needs.{needs}
 use Rattle.create.proofs.refusals.request_refusal.Statement.{statement}
 use Rattle.create.proofs.refusals.request_refusal.Tie as tie

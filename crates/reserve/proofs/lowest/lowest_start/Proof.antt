@@ -4,7 +4,7 @@ use native.Mathlib.Omega.{arith}
 use Rattle.segments.specs.CallLaws.{ahead-most}
 use Rattle.model.specs.Layout.{machine}
 use Rattle.model.specs.Segments.{foundStart}
-use Rattle.reserve.specs.LowestLaws.{lowest-empty, lowest-large, lowest-searched, arena-ends}
+use Rattle.reserve.specs.LowestSpotLaws.{lowest-empty, lowest-large, lowest-searched, arena-ends}
 use borrow.Author.Needs.{needs}
 use Rattle.reserve.proofs.lowest.lowest_start.Statement.{statement}
 use Rattle.reserve.proofs.lowest.lowest_start.Tie as tie

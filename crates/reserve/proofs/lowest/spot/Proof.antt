@@ -1,6 +1,6 @@
 -- `spot` is the given start if it is free, or the lowest free one.
 use Rattle.model.specs.Layout.{machine}
-use Rattle.reserve.specs.LowestLaws.{spot-lowest, spot-taken, spot-given}
+use Rattle.reserve.specs.LowestSpotLaws.{spot-lowest, spot-taken, spot-given}
 use borrow.Author.Needs.{needs}
 use Rattle.reserve.proofs.lowest.spot.Statement.{statement}
 use Rattle.reserve.proofs.lowest.spot.Tie as tie

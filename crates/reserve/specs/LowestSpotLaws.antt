@@ -1,4 +1,4 @@
--- Laws of `Lowest`: the lowest free start of a process's arena, one law for each way through the code.
+-- Laws of `LowestSpot`: the lowest free start of a process's arena, one law for each way through the code.
 use mathlib.Core.Path.{_≡_, ap, sym, _∙_}
 use mathlib.Core.Bool.{Bool, true, false, _||_, cond}
 use mathlib.Core.List.{List}
@@ -25,7 +25,7 @@ use Rattle.model.specs.Create.{spot}
 use Rattle.model.specs.SoundLaws.{tells-processes}
 use Rattle.model.specs.RecordLaws.{process-tells}
 use Rattle.lookup.specs.LookupsLaws.{processes-length}
-use Rattle.reserve.specs.Lowest.{ProcessesFit}
+use Rattle.reserve.specs.LowestSpot.{ProcessesFit}
 
 module _ (m : Machine) (p len : ℕ) (q : Process) (read : q ≡ processAt m p) where
   -- the search of some segments over an arena

@@ -1,4 +1,4 @@
--- Laws of `Refused`: the tests of what was asked for, and which of them refuses: one law for each way through the code.
+-- Laws of `RequestRefused`: the tests of what was asked for, and which of them refuses: one law for each way through the code.
 use mathlib.Core.Path.{_≡_, refl, ap, sym, _∙_}
 use mathlib.Core.Logic.{_≢_}
 use mathlib.Core.Bool.{Bool, true, false, _||_, not, cond, false≢true, or-false}
@@ -26,7 +26,7 @@ use Rattle.model.specs.Answers.{firstOf}
 use Rattle.model.specs.Create.{badStart, badPlace, badSize, roundUp}
 use Rattle.laws.specs.TestLaws.{tells-lt, tells-as}
 use Rattle.lookup.specs.FirstOfLaws.{first-here, first-later, first-none, first-passed, not-no, not-yes}
-use Rattle.create.specs.Refused.{badRange, badFlags, fileMissing, requestRefusals}
+use Rattle.create.specs.RequestRefused.{badRange, badFlags, fileMissing, requestRefusals}
 
 -- ---- a start
 

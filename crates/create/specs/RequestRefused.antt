@@ -1,4 +1,4 @@
--- The tests of what was asked for, and which of them refuses: one law for each way through the code.
+-- The tests of what was asked for, and which of them refuses.
 use mathlib.Core.Bool.{Bool, _&&_, _||_, not}
 use mathlib.Core.List.{List, [], _∷_}
 use Prim.Native.Nat.{ℕ}
