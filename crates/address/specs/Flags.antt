@@ -6,6 +6,7 @@ use lib.Dec.{eqb}
 use Rattle.address.specs.declared.flags.CheckedFlags.{CheckedFlags}
 use Rattle.address.specs.declared.flags.CheckedFlags.the-variants.{Good, Bad}
 use Rattle.address.specs.Bits.{bit, has}
+use mathlib.Core.Logic.{_⊎_}
 
 -- Intel 64 manual, volume 3, section 4.5, table 4-20 "Format of a Page-Table Entry that Maps a 4-KByte Page":
 -- bit 0 P (present), bit 1 R/W (writes allowed), bit 2 U/S (user accesses allowed), bit 63 XD (no instruction fetches)
@@ -40,3 +41,8 @@ checkedFlags n = cond (goodFlags n) (Good (record { 0 = n })) Bad
 -- flags with WRITABLE off (FlagsLaws: without-writable)
 unfoldable pub readOnly : ℕ → ℕ
 readOnly f = f - bit f writable * 2
+
+-- document 01, BadFlags: "PRESENT missing, or a bit outside the four"
+pub record GoodFlags (n : ℕ) : Type 0 where
+  pub isPresent : bit n present ≡ 1
+  pub ofFour : (i : ℕ) → bit n i ≡ 1 → (i ≡ present) ⊎ ((i ≡ writable) ⊎ ((i ≡ userAccessible) ⊎ (i ≡ noExecute)))

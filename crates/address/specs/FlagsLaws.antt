@@ -6,7 +6,7 @@ use Prim.Native.Nat.{ℕ, _*_, _-_, _/_, _%_, _^_, zero, suc, _+_, _≤_, _<_, m
 use lib.Dec.{eqb}
 use Rattle.address.specs.declared.flags.CheckedFlags.the-variants.{Good, Bad}
 use Rattle.address.specs.Bits.{bit, has}
-use Rattle.address.specs.Flags.{present, writable, userAccessible, noExecute, Contains, Without, goodFlags, checkedFlags, readOnly}
+use Rattle.address.specs.Flags.{Contains, Without, goodFlags, checkedFlags, readOnly, GoodFlags}
 use native.Mathlib.Omega.{arith}
 use lib.Bits.{bitAnd, bitXor, and-le-r, differ}
 use borrow.Author.Tests.{eqb-true, eq-eqb}
@@ -14,11 +14,6 @@ use Rattle.address.specs.BitsLaws.{bit-from, bit-zero, bit-pow, bit-low,
 use Rattle.laws.specs.Tells.{Tells}
 use Rattle.laws.specs.BoolLaws.{both-true}
 use Rattle.laws.specs.TellsLaws.{tells-of, tells-both, tells-same}
-
--- document 01, BadFlags: "PRESENT missing, or a bit outside the four"
-pub record GoodFlags (n : ℕ) : Type 0 where
-  pub isPresent : bit n present ≡ 1
-  pub ofFour : (i : ℕ) → bit n i ≡ 1 → (i ≡ present) ⊎ ((i ≡ writable) ⊎ ((i ≡ userAccessible) ⊎ (i ≡ noExecute)))
 
 -- the code's `a & b == b` tells that a contains b
 pub contains-tells : (a b : ℕ) → b < 2 ^ 64 → Tells (eqb (bitAnd a b) b) (Contains a b)

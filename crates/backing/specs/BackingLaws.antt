@@ -18,7 +18,7 @@ use Rattle.laws.specs.Lists.{keep, upFrom}
 use Rattle.laws.specs.TestLaws.{tells-le, tells-lt}
 use Rattle.model.specs.Machine.{Machine, State, noBacking, withPool}
 use Rattle.model.specs.Backing.{backingAt, inSome, freeFrames, poolOf, withBackings, lowestRun, claim, hold, letGo}
-use Rattle.model.specs.Sound.{R2, Sound, freeOf}
+use Rattle.model.specs.Sound.{Sound, freeOf}
 use Rattle.model.specs.LookupLaws.{never-found, same-slot}
 use Rattle.backing.specs.BackingSteps.{framed, inRun, lowestFit, givenBack, putRow, claimed, held, released, nextFrame, withNextTaken}
 use Rattle.backing.specs.FreeSearchLaws.{All, Run, run-of}
@@ -26,12 +26,7 @@ use Rattle.backing.specs.CoveredLaws.{tells-covers}
 use Rattle.backing.specs.FreeRunLaws.{first-passes, first-none}
 use Rattle.lookup.specs.LookupsLaws.{backings-length}
 use Rattle.backing.specs.PoolsLaws.{Right, kept-pool, taken-pool, given-pool}
-
--- a machine whose pool is right
-pub record Ready (m : Machine) : Type 0 where
-  pub r2 : R2 m
-  pub rows : length (m .backings) ≡ 256
-  pub few : m .frameCount ≤ 256
+use Rattle.backing.specs.Ready.{Ready}
 
 pub sound-ready : {s : State} → Sound s → Ready (s .machine)
 sound-ready sound = record { r2 = sound .r2; rows = sound .r6 .sized .backings; few = sound .r6 .sized .frameCount }

@@ -11,7 +11,8 @@ use Rattle.model.specs.declared.Backing.{Backing}
 use Rattle.model.specs.declared.Found.{Found}
 use Rattle.model.specs.declared.Found.the-variants.{At, Nothing}
 use Rattle.laws.specs.Lists.{first}
-use Rattle.laws.specs.LoopLaws.{Remains, loop-found, loop-more, loop-none}
+use Rattle.laws.specs.Loops.{Remains}
+use Rattle.laws.specs.LoopLaws.{loop-found, loop-more, loop-none}
 use Rattle.model.specs.Machine.{noBacking}
 use Rattle.model.specs.Backing.{runFrom}
 use Rattle.model.specs.LookupLaws.{never-found, same-slot}

@@ -8,5 +8,6 @@ pub mod FreeSearchLaws
 pub mod CoveredLaws
 pub mod PoolsLaws
 pub mod BackingWayLaws
+pub mod Ready
 pub mod BackingLaws
 pub mod HoldersLaws

@@ -15,7 +15,8 @@ use Rattle.model.specs.SoundLaws.{tells-processes}
 use Rattle.model.specs.RecordLaws.{process-tells, region-tells, sound-tells}
 use Rattle.rows.specs.LentMemory.{stateOf, SoundWords, SoundFrames}
 use Rattle.lookup.specs.LookupsLaws.{processes-length}
-use Rattle.backing.specs.BackingLaws.{Ready, sound-ready}
+use Rattle.backing.specs.Ready.{Ready}
+use Rattle.backing.specs.BackingLaws.{sound-ready}
 use Rattle.reserve.specs.SortedSegments.{RegionsFit}
 use Rattle.reserve.specs.LowestSpot.{ProcessesFit}
 

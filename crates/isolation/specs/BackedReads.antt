@@ -22,7 +22,8 @@ use Rattle.model.specs.declared.Done.the-variants.{Yes, No}
 use Rattle.model.specs.Machine.{Machine, State, processAt, regionAt, rowOf, orderOf, mappedOf}
 use Rattle.model.specs.Answers.{Try, fine, unless}
 use Rattle.model.specs.Lookup.{contains, regionFor, isFound, isOpen, isShared, rowFound}
-use Rattle.model.specs.LookupLaws.{never-found, both-true}
+use Rattle.model.specs.LookupLaws.{never-found}
+use Rattle.laws.specs.BoolLaws.{both-true}
 use Rattle.model.specs.Paging.{translate, isUser, isWritable}
 use Rattle.model.specs.Backing.{backing}
 use Rattle.model.specs.Fault.{backedWay, translatedWay, privateWay, sharedWay, faultWay, wayRefusals, noRoom, goWay, handleFault}
@@ -31,7 +32,7 @@ use Rattle.model.specs.Calls as calls
 use Rattle.model.specs.Sound.{Sound, frameBy}
 use Rattle.model.specs.Posix.{homeSlot, frameIn, Readable}
 use Rattle.keeping.specs.GuardedKept.{Passed}
-use Rattle.keeping.specs.In.{In}
+use Rattle.laws.specs.In.{In}
 use Rattle.keeping.specs.Owing.{Owing, nothing}
 use Rattle.keeping.specs.OwingOfSound.{sound-owing}
 use Rattle.keeping.specs.FaultKept.{page-inside}

@@ -11,7 +11,7 @@ use Rattle.model.specs.declared.Mapping.{Mapping}
 use Rattle.laws.specs.Lists.{part}
 use Rattle.model.specs.Machine.{Machine, mappedOf, noProcess}
 use Rattle.model.specs.Backing.{backingAt}
-use Rattle.keeping.specs.In.{In}
+use Rattle.laws.specs.In.{In}
 use Rattle.keeping.specs.Owing.{Owing}
 use Rattle.keeping.specs.BackingsKept.{backing-apart}
 

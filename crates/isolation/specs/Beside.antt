@@ -13,7 +13,7 @@ use Rattle.model.specs.Lookup.{contains}
 use Rattle.model.specs.LookupLaws.{never-found}
 use Rattle.model.specs.Paging.{pageStart}
 use Rattle.model.specs.Posix.{homeSlot, frameIn, frameAt}
-use Rattle.keeping.specs.In.{In}
+use Rattle.laws.specs.In.{In}
 use Rattle.keeping.specs.Owing.{Owing, Backs, rowAt, entryAt}
 use Rattle.isolation.specs.ViewLaws.{home-at, region-home, home-region, view-none, kind-none, looks}
 use Rattle.isolation.specs.Undisturbed.{Undisturbed, Same, same-refl, same-then, same-undisturbed, still-home, frame-undisturbed}

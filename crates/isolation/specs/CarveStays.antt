@@ -19,7 +19,7 @@ use Rattle.laws.specs.Lists.{keep, pad}
 use Rattle.model.specs.Machine.{Machine, State, withMachine, withOrder, processAt, regionAt, rowOf, orderOf, noRegion, noFile}
 use Rattle.model.specs.MachineLaws.{order-put}
 use Rattle.model.specs.Lookup.{contains, regionFor, freeSlot, rowFound, isFound, isFile}
-use Rattle.model.specs.LookupLaws.{both-true}
+use Rattle.laws.specs.BoolLaws.{both-true}
 use Rattle.model.specs.Paging.{pageStart}
 use Rattle.model.specs.Backing.{backing}
 use Rattle.model.specs.Create.{one}
@@ -30,9 +30,9 @@ use Rattle.model.specs.Calls as calls
 use Rattle.model.specs.Run.{Call, call, step}
 use Rattle.model.specs.Sound.{Sound, Used, frameBy}
 use Rattle.model.specs.Posix.{PrivateAt}
-use Rattle.keeping.specs.In.{In}
-use Rattle.keeping.specs.InLaws.{in-right, in-left}
-use Rattle.keeping.specs.ListsLaws.{keep-in}
+use Rattle.laws.specs.In.{In}
+use Rattle.laws.specs.InLaws.{in-right, in-left}
+use Rattle.laws.specs.InListsLaws.{keep-in}
 use Rattle.keeping.specs.Owing.{Owing, Backs, rowAt, entryAt, nothing}
 use Rattle.keeping.specs.OwingOfSound.{sound-owing}
 use Rattle.keeping.specs.OrderKept.{order-other}

@@ -27,8 +27,8 @@ use Rattle.model.specs.Run.{Call, call, step}
 use Rattle.model.specs.Sound.{Sound}
 use Rattle.model.specs.Posix.{view, homeSlot, PrivateAt, Inherited, ForkInherits, ForkKeepsOthers, CloneInherits, CloneKeepsOthers}
 use Rattle.keeping.specs.GuardedKept.{Passed, passed}
-use Rattle.keeping.specs.In.{In}
-use Rattle.keeping.specs.ListsLaws.{in-keep, keep-in}
+use Rattle.laws.specs.In.{In}
+use Rattle.laws.specs.InListsLaws.{in-keep, keep-in}
 use Rattle.keeping.specs.OwingOfSound.{sound-owing}
 use Rattle.keeping.specs.Named.{named-at, is-open}
 use Rattle.keeping.specs.CloneKept.{clone-core}

@@ -12,7 +12,7 @@ use Rattle.model.specs.Backing.{backingAt}
 use Rattle.model.specs.Access.{pageAt}
 use Rattle.model.specs.Sound.{Used}
 use Rattle.model.specs.Posix.{homeSlot, frameAt, Inherited}
-use Rattle.keeping.specs.In.{In}
+use Rattle.laws.specs.In.{In}
 use Rattle.keeping.specs.Owing.{Owing, rowAt, entryAt}
 use Rattle.isolation.specs.ViewLaws.{home-region, looks}
 use Rattle.isolation.specs.LoneHolder.{OwnEntry}

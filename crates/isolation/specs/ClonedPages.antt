@@ -18,10 +18,10 @@ use Rattle.model.specs.Machine.{Machine, regionAt, rowOf, noEntry}
 use Rattle.model.specs.Lookup.{isRanged, isFound}
 use Rattle.model.specs.Backing.{backingAt, entryFor}
 use Rattle.model.specs.Clone.{Held, inOrder, singlePages, rangePages, backedPages}
-use Rattle.keeping.specs.In.{In}
-use Rattle.keeping.specs.InLaws.{in-left, in-right, in-either, in-map, map-in}
-use Rattle.keeping.specs.ListsLaws.{in-keep, keep-in, in-up}
-use Rattle.keeping.specs.RowSearchLaws.{first-found}
+use Rattle.laws.specs.In.{In}
+use Rattle.laws.specs.InLaws.{in-left, in-right, in-either, in-map, map-in}
+use Rattle.laws.specs.InListsLaws.{in-keep, keep-in, in-up}
+use Rattle.model.specs.FoundRowLaws.{first-found}
 use Rattle.keeping.specs.Owing.{Backs, entryAt}
 use Rattle.keeping.specs.BacksLaws.{entryOf, tells-entry, no-entry}
 use Rattle.keeping.specs.ClonePagesLaws.{single-of}

@@ -18,7 +18,8 @@ use Rattle.laws.specs.Lists.{each}
 use Rattle.model.specs.Machine.{Machine, State, withMachine, withOrder, processAt, regionAt, rowOf, orderOf, mappedOf, noRegion, noEntry, noBacking}
 use Rattle.model.specs.MachineLaws.{Books, books-then, books-order, books-mapped}
 use Rattle.model.specs.Lookup.{contains, freeSlot, freeEntry, freeEntries, rowFound, isFound, segmentLen}
-use Rattle.model.specs.LookupLaws.{never-found, both-true}
+use Rattle.model.specs.LookupLaws.{never-found}
+use Rattle.laws.specs.BoolLaws.{both-true}
 use Rattle.model.specs.Paging.{pageStart, translate}
 use Rattle.model.specs.Backing.{backing, backingAt, claim, addEntry, withBackings, frameBytes, putFrame}
 use Rattle.model.specs.Segments.{reserved}
@@ -26,8 +27,8 @@ use Rattle.model.specs.Create.{addRegion}
 use Rattle.model.specs.Clone.{Held, backedPages, copyEntry, copiedRow}
 use Rattle.model.specs.Sound.{Sound, Used, frameBy}
 use Rattle.model.specs.Posix.{homeSlot, frameIn, frameAt, Inherited}
-use Rattle.keeping.specs.In.{In}
-use Rattle.keeping.specs.InLaws.{in-right, in-either}
+use Rattle.laws.specs.In.{In}
+use Rattle.laws.specs.InLaws.{in-right, in-either}
 use Rattle.keeping.specs.Owing.{Owing, Backs, rowAt, entryAt, nothing}
 use Rattle.keeping.specs.BacksLaws.{source-of, backing-of}
 use Rattle.keeping.specs.OwingOfSound.{sound-owing, sound-lent}

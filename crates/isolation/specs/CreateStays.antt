@@ -22,8 +22,8 @@ use Rattle.model.specs.Calls as calls
 use Rattle.model.specs.Run.{Call, call, step}
 use Rattle.model.specs.Sound.{Sound, Used}
 use Rattle.model.specs.Posix.{PrivateAt}
-use Rattle.keeping.specs.In.{In}
-use Rattle.keeping.specs.InLaws.{in-left, in-either, once-last}
+use Rattle.laws.specs.In.{In}
+use Rattle.laws.specs.InLaws.{in-left, in-either, once-last}
 use Rattle.keeping.specs.Owing.{Owing, Backs, rowAt, nothing}
 use Rattle.keeping.specs.OwingOfSound.{sound-owing}
 use Rattle.keeping.specs.OwingLaws.{open-low}
@@ -31,7 +31,7 @@ use Rattle.keeping.specs.BackingsKept.{FreeRun}
 use Rattle.keeping.specs.FreeLaws.{lowest-run}
 use Rattle.keeping.specs.OrderKept.{order-other, order-reads, mapped-order}
 use Rattle.keeping.specs.Named.{is-open}
-use Rattle.keeping.specs.ListsLaws.{few-below}
+use Rattle.laws.specs.InListsLaws.{few-below}
 use Rattle.keeping.specs.AddedKept.{free-slot}
 use Rattle.keeping.specs.CreateKept.{create-private-kept, create-file-kept, create-shared-kept}
 use Rattle.isolation.specs.Statements.{Stays}

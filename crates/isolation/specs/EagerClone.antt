@@ -19,7 +19,7 @@ use Rattle.model.specs.Calls as calls
 use Rattle.model.specs.Run.{call, step}
 use Rattle.model.specs.Sound.{Sound, Used}
 use Rattle.model.specs.Posix.{homeSlot, frameAt}
-use Rattle.keeping.specs.In.{In}
+use Rattle.laws.specs.In.{In}
 use Rattle.keeping.specs.Owing.{Owing, rowAt, entryAt, nothing}
 use Rattle.keeping.specs.OwingOfSound.{sound-owing}
 use Rattle.keeping.specs.CloneKept.{clone-region-kept, clone-kept}

@@ -9,7 +9,7 @@ use lib.Seq.{getD-set-same}
 use Rattle.model.specs.declared.Entry.{Entry}
 use Rattle.model.specs.Machine.{Machine, noEntry}
 use Rattle.model.specs.Clone.{Held}
-use Rattle.keeping.specs.In.{In}
+use Rattle.laws.specs.In.{In}
 use Rattle.keeping.specs.Owing.{entryAt}
 use Rattle.keeping.specs.EntriesKept.{entryOn}
 use Rattle.isolation.specs.Quiet.{set-either}

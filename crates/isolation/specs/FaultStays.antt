@@ -36,12 +36,12 @@ use Rattle.model.specs.Run.{Call, call, step}
 use Rattle.model.specs.Sound.{Sound, frameBy}
 use Rattle.model.specs.Posix.{view, homeSlot, kindAt, FaultKeepsViews}
 use Rattle.keeping.specs.GuardedKept.{Passed, passed}
-use Rattle.keeping.specs.In.{In}
-use Rattle.keeping.specs.SetLaws.{row-there}
+use Rattle.laws.specs.In.{In}
+use Rattle.laws.specs.SetLaws.{row-there}
 use Rattle.keeping.specs.Owing.{Owing, Backs, rowAt, entryAt, nothing}
 use Rattle.keeping.specs.BacksLaws.{source-of, backing-of, entry-of}
 use Rattle.keeping.specs.OwingOfSound.{sound-owing}
-use Rattle.keeping.specs.OwingLaws.{open-low, listed-open}
+use Rattle.keeping.specs.OwingLaws.{open-low}
 use Rattle.keeping.specs.PagesKept.{base-used}
 use Rattle.keeping.specs.BackingsKept.{FreeRun, backing-within}
 use Rattle.keeping.specs.FreeLaws.{next-run}

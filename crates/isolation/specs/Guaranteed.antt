@@ -15,8 +15,8 @@ use Rattle.model.specs.Protect.{holdersBy}
 use Rattle.model.specs.Run.{run}
 use Rattle.model.specs.Sound.{Sound, Homed, Flagged, homeOf}
 use Rattle.model.specs.EmptyLaws.{start-sound}
-use Rattle.keeping.specs.In.{In}
-use Rattle.keeping.specs.InLaws.{in-at, in-row}
+use Rattle.laws.specs.In.{In}
+use Rattle.laws.specs.InLaws.{in-at, in-row}
 use Rattle.keeping.specs.Owing.{Owing, nothing}
 use Rattle.keeping.specs.BacksLaws.{source-of}
 use Rattle.keeping.specs.ViewLaws.{home-listed}

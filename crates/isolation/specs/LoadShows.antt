@@ -30,7 +30,7 @@ use Rattle.model.specs.Sound.{Sound, frameBy}
 use Rattle.model.specs.Posix.{view, homeSlot, frameIn, frameAt, LoadIsView, PrivateStore, StoredAlone, StoredShared, SharedStore}
 use Rattle.model.specs.RecordLaws.{sound-tells}
 use Rattle.keeping.specs.GuardedKept.{Passed, passed}
-use Rattle.keeping.specs.In.{In}
+use Rattle.laws.specs.In.{In}
 use Rattle.keeping.specs.Owing.{Owing, Backs, nothing}
 use Rattle.keeping.specs.BacksLaws.{backing-of}
 use Rattle.keeping.specs.OwingOfSound.{sound-owing}

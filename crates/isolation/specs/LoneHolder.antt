@@ -16,16 +16,16 @@ use Rattle.model.specs.declared.Found.the-variants.{At}
 use Rattle.model.specs.declared.Backed.the-variants as by
 use Rattle.model.specs.Machine.{Machine, withEntries, withRegions, regionAt, rowOf, noEntry, noRegion}
 use Rattle.model.specs.Lookup.{contains, isShared}
-use Rattle.model.specs.LookupLaws.{both-true}
+use Rattle.laws.specs.BoolLaws.{both-true}
 use Rattle.model.specs.Paging.{pageStart}
 use Rattle.model.specs.Backing.{backing, backingAt, entryFor}
 use Rattle.model.specs.Create.{one}
 use Rattle.model.specs.Sound.{Used, Hold, holdersOf}
-use Rattle.keeping.specs.SetLaws.{row-there}
-use Rattle.keeping.specs.Owing.{Owing, Backs, Holds, rowAt, entryAt, entryHold, rangeHold, nothing}
+use Rattle.laws.specs.SetLaws.{row-there}
+use Rattle.keeping.specs.Owing.{Owing, Backs, Holds, rowAt, entryAt, nothing}
+use Rattle.model.specs.HolderLaws.{entryHold, rangeHold, weight, entryTaken, rangeTaken, oneIf, weight-free, weight-taken}
 use Rattle.keeping.specs.BacksLaws.{source-of, entry-found}
 use Rattle.keeping.specs.ViewLaws.{held-some}
-use Rattle.keeping.specs.HolderCounts.{weight, entryTaken, rangeTaken, oneIf, weight-free, weight-taken}
 use Rattle.keeping.specs.EntriesKept.{entryOn, entry-counts}
 use Rattle.keeping.specs.SlotsKept.{row-counts}
 use Rattle.isolation.specs.Statements.{Alone, OwnPage}

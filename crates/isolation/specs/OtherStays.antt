@@ -26,9 +26,9 @@ use Rattle.model.specs.Run.{Call, call, step}
 use Rattle.model.specs.Sound.{Sound}
 use Rattle.model.specs.Posix.{homeSlot, PrivateAt}
 use Rattle.keeping.specs.GuardedKept.{Passed}
-use Rattle.keeping.specs.In.{In, Once}
-use Rattle.keeping.specs.ListsLaws.{in-among}
-use Rattle.keeping.specs.RowSearchLaws.{first-found}
+use Rattle.laws.specs.In.{In, Once}
+use Rattle.laws.specs.InListsLaws.{in-among}
+use Rattle.model.specs.FoundRowLaws.{first-found}
 use Rattle.keeping.specs.Owing.{Owing, nothing}
 use Rattle.keeping.specs.OwingOfSound.{sound-owing}
 use Rattle.keeping.specs.OwingLaws.{open-low, listed-open}

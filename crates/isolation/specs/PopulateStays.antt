@@ -18,10 +18,8 @@ use Rattle.model.specs.Refusals.{populateRefusals, processRefusals}
 use Rattle.model.specs.Calls as calls
 use Rattle.model.specs.Run.{Call, call, step}
 use Rattle.model.specs.Sound.{Sound}
-use Rattle.keeping.specs.Owing.{nothing}
 use Rattle.keeping.specs.OwingOfSound.{sound-owing}
 use Rattle.keeping.specs.FaultKept.{fault-core}
-use Rattle.keeping.specs.OwingLaws.{listed-open}
 use Rattle.isolation.specs.ViewLaws.{Home, home-at}
 use Rattle.isolation.specs.Undisturbed.{Same, same-refl, same-then, same-stays, guarded-same, CallStays}
 use Rattle.isolation.specs.FaultStays.{fault-same}

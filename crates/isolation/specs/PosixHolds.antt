@@ -43,7 +43,7 @@ use Rattle.model.specs.Posix as posix
 use Rattle.model.specs.Posix.{view, homeSlot, Readable, FaultShowsView}
 use Rattle.model.specs.MappedBelowLaws.{length-map, length-unmap}
 use Rattle.keeping.specs.GuardedKept.{Passed, passed}
-use Rattle.keeping.specs.In.{In}
+use Rattle.laws.specs.In.{In}
 use Rattle.keeping.specs.Owing.{Owing, Placed, nothing}
 use Rattle.keeping.specs.OwingOfSound.{sound-owing}
 use Rattle.keeping.specs.OwingLaws.{home-one, listed-open}

@@ -19,8 +19,8 @@ use Rattle.model.specs.Lookup.{isRanged, isPinned}
 use Rattle.model.specs.Paging.{unmapFrom, mapsIn}
 use Rattle.model.specs.Backing.{letGo}
 use Rattle.model.specs.Remove.{framesOf, dropRegion, removeRegion}
-use Rattle.keeping.specs.In.{In}
-use Rattle.keeping.specs.ListsLaws.{keep-in}
+use Rattle.laws.specs.In.{In}
+use Rattle.laws.specs.InListsLaws.{keep-in}
 use Rattle.keeping.specs.Owing.{Owing, entryAt}
 use Rattle.keeping.specs.PagesKept.{pages-kept}
 use Rattle.keeping.specs.OrderKept.{order-other}

@@ -15,10 +15,10 @@ use Rattle.model.specs.declared.Entry.{Entry}
 use Rattle.model.specs.declared.Backing.{Backing}
 use Rattle.model.specs.declared.Found.the-variants.{At}
 use Rattle.model.specs.declared.Translated.the-variants.{Mapped}
-use Rattle.laws.specs.Lists.{each}
+use Rattle.laws.specs.Lists.{each, count}
 use Rattle.model.specs.Machine.{Machine, State, withMachine, withMapped, withOrder, processAt, regionAt, rowOf, orderOf, mappedOf, noRegion, noEntry, noBacking}
 use Rattle.model.specs.MachineLaws.{Books, books-then, books-order, books-mapped, order-mapped, mapped-put}
-use Rattle.model.specs.Lookup.{contains, isShared, isRanged, freeSlot, freeEntry, freeEntries, rowFound, isFound, segmentLen, count}
+use Rattle.model.specs.Lookup.{contains, isShared, isRanged, freeSlot, freeEntry, freeEntries, rowFound, isFound, segmentLen}
 use Rattle.model.specs.Paging.{pageStart, mapping, mapsIn, translate, remapWhere}
 use Rattle.model.specs.Backing.{hold, addEntry, withBackings, backing, backingAt}
 use Rattle.model.specs.Segments.{reserved}
@@ -28,8 +28,8 @@ use Rattle.model.specs.Access.{pageAt}
 use Rattle.model.specs.Sound.{Sound, Used, frameBy}
 use Rattle.model.specs.Posix.{homeSlot, frameIn, Inherited}
 use Rattle.model.specs.MappedBelowLaws.{length-remap}
-use Rattle.keeping.specs.In.{In}
-use Rattle.keeping.specs.InLaws.{in-right, in-either}
+use Rattle.laws.specs.In.{In}
+use Rattle.laws.specs.InLaws.{in-right, in-either}
 use Rattle.keeping.specs.Owing.{Owing, rowAt, entryAt, nothing}
 use Rattle.keeping.specs.OwingOfSound.{sound-owing}
 use Rattle.keeping.specs.OwingLaws.{home-one, open-low, listed-open}

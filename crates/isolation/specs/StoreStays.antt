@@ -17,7 +17,7 @@ use Rattle.model.specs.declared.Translated.{Translated}
 use Rattle.model.specs.declared.Translated.the-variants.{Mapped, NotMapped}
 use Rattle.model.specs.Machine.{Machine, State, withFrames, regionAt, rowOf, mappedOf}
 use Rattle.model.specs.Lookup.{contains}
-use Rattle.model.specs.LookupLaws.{both-true}
+use Rattle.laws.specs.BoolLaws.{both-true}
 use Rattle.model.specs.Paging.{pageStart, translate, isWritable, isUser}
 use Rattle.model.specs.Access.{granted, pageAt, byteAt, stored}
 use Rattle.model.specs.Refusals.{accessRefusals}
@@ -26,7 +26,7 @@ use Rattle.model.specs.Run.{Call, call, step}
 use Rattle.model.specs.Sound.{Sound, Used}
 use Rattle.model.specs.Posix.{homeSlot, PrivateAt}
 use Rattle.keeping.specs.GuardedKept.{Passed}
-use Rattle.keeping.specs.In.{In}
+use Rattle.laws.specs.In.{In}
 use Rattle.keeping.specs.Owing.{Owing, Placed, Backs, nothing}
 use Rattle.keeping.specs.OwingOfSound.{sound-owing}
 use Rattle.isolation.specs.Statements.{Stays, touches}

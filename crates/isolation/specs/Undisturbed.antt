@@ -26,7 +26,7 @@ use Rattle.model.specs.Sound.{Sound, Used, frameBy}
 use Rattle.model.specs.SoundTest.{soundb}
 use Rattle.model.specs.Posix.{view, homeSlot, kindAt, PrivateAt}
 use Rattle.keeping.specs.GuardedKept.{Passed, passed}
-use Rattle.keeping.specs.In.{In}
+use Rattle.laws.specs.In.{In}
 use Rattle.keeping.specs.Owing.{Owing, Backs, rowAt, entryAt}
 use Rattle.keeping.specs.BacksLaws.{source-of, backing-of}
 use Rattle.keeping.specs.OwingOfSound.{sound-owing}

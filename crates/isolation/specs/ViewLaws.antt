@@ -13,14 +13,15 @@ use Rattle.model.specs.declared.Backed as backed
 use Rattle.model.specs.declared.Backed.the-variants as by
 use Rattle.model.specs.Machine.{Machine, State, regionAt, orderOf, noFile}
 use Rattle.model.specs.Lookup.{contains, regionFor}
-use Rattle.model.specs.LookupLaws.{first-found, first-none, clash}
+use Rattle.model.specs.LookupLaws.{first-found, first-none}
+use Rattle.laws.specs.BoolLaws.{clash}
 use Rattle.model.specs.Paging.{pageStart}
 use Rattle.model.specs.Backing.{backing}
 use Rattle.model.specs.Fault.{readFails, fillOf, filePage, fromFile}
 use Rattle.model.specs.Sound.{frameBy}
 use Rattle.model.specs.Posix.{view, viewBy, homeSlot, kindIn, kindAt, PrivateAt}
-use Rattle.keeping.specs.In.{In}
-use Rattle.keeping.specs.ListsLaws.{among-in, in-among}
+use Rattle.laws.specs.In.{In}
+use Rattle.laws.specs.InListsLaws.{among-in, in-among}
 use Rattle.keeping.specs.Owing.{Owing}
 use Rattle.keeping.specs.OwingLaws.{home-one, open-low, listed-open}
 

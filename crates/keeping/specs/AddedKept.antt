@@ -15,12 +15,13 @@ use Rattle.model.specs.Lookup.{freeSlot, rowFound, isFound, regionsOf}
 use Rattle.model.specs.Create.{addRegion}
 use Rattle.model.specs.Pins.{withPins}
 use Rattle.model.specs.Sound.{Used, Apart, Limits, Hold}
-use Rattle.keeping.specs.In.{In, Once}
-use Rattle.keeping.specs.InLaws.{in-left, in-right, in-either, once-last}
-use Rattle.keeping.specs.ListsLaws.{few-below}
-use Rattle.keeping.specs.PartLaws.{part-row, part-length}
-use Rattle.keeping.specs.RowSearchLaws.{first-found}
-use Rattle.keeping.specs.Owing.{rowAt, Owing, Holds, rangeHold}
+use Rattle.laws.specs.In.{In, Once}
+use Rattle.laws.specs.InLaws.{in-left, in-right, in-either, once-last}
+use Rattle.laws.specs.InListsLaws.{few-below}
+use Rattle.laws.specs.ListsLaws.{part-at, part-length}
+use Rattle.model.specs.FoundRowLaws.{first-found}
+use Rattle.keeping.specs.Owing.{rowAt, Owing, Holds}
+use Rattle.model.specs.HolderLaws.{rangeHold}
 use Rattle.keeping.specs.OwingLaws.{open-low, listed-row, slot-pinned}
 use Rattle.keeping.specs.AlikeLaws.{limits-pins}
 use Rattle.keeping.specs.SlotsKept.{owes, slot-put}
@@ -36,10 +37,10 @@ free-slot d m o p h e =
     let t : ℕ = rowFound (freeSlot m p) in
     let k = first-found (λ r. eqb (r .kind) 0) (regionsOf m p) t noRegion (found-at (freeSlot m p) e) in
     let size = o .sizes .regions in
-    let few = part-length 64 p (m .regions) (omega arith) in
+    let few = part-length (m .regions) 64 p (omega arith) in
     let inside = k .0 in
     let low : t < 64 = omega arith in
-    (low, ap (λ (r : Region). r .kind) (sym (part-row 64 p t (m .regions) noRegion low)) ∙ eqb-true (getD (regionsOf m p) t noRegion .kind) 0 (k .1))
+    (low, ap (λ (r : Region). r .kind) (sym (part-at (m .regions) 64 p t noRegion low)) ∙ eqb-true (getD (regionsOf m p) t noRegion .kind) 0 (k .1))
 
 -- what a region that is added takes: an open process, a slot left, limits kept, apart from every region there, one page with every other holder of its range
 pub record Added (m : Machine) (p : ℕ) (r : Region) : Type 0 where

@@ -14,7 +14,7 @@ use Rattle.model.specs.Paging.{pageStart, mapping}
 use Rattle.model.specs.Backing.{backingAt}
 use Rattle.model.specs.Pins.{withPins}
 use Rattle.model.specs.Sound.{Used, Flagged, Limits, RegionFits, Entered, EntryFits, R2}
-use Rattle.keeping.specs.In.{In}
+use Rattle.laws.specs.In.{In}
 use Rattle.keeping.specs.Owing.{rowAt, entryAt, Backs, Placed, Sizes, ByEntry}
 
 -- regions that differ in flags, pins and the like alone

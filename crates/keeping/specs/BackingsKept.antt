@@ -12,10 +12,10 @@ use Rattle.model.specs.declared.Mapping.{Mapping}
 use Rattle.model.specs.Machine.{Machine, regionAt, rowOf, orderOf, mappedOf, noBacking}
 use Rattle.model.specs.Backing.{backingAt, poolOf, withBackings, claim, hold, letGo}
 use Rattle.model.specs.Sound.{Flagged, Hold, R2, holdersOf, holds}
-use Rattle.keeping.specs.SetLaws.{row-there, each-row}
-use Rattle.keeping.specs.In.{In}
-use Rattle.keeping.specs.Owing.{rowAt, entryAt, Backs, Placed, Owing, Holds, entryHold, rangeHold}
-use Rattle.keeping.specs.HolderCounts.{oneIf}
+use Rattle.laws.specs.SetLaws.{row-there, each-row}
+use Rattle.laws.specs.In.{In}
+use Rattle.keeping.specs.Owing.{rowAt, entryAt, Backs, Placed, Owing, Holds}
+use Rattle.model.specs.HolderLaws.{entryHold, rangeHold, oneIf}
 use Rattle.keeping.specs.ViewLaws.{held-some, hold-used}
 use Rattle.keeping.specs.AlikeLaws.{alike-same, fits-as, entry-as, placed-as, sizes-as}
 use Rattle.keeping.specs.PagesKept.{base-used}

@@ -23,7 +23,7 @@ use Rattle.model.specs.Protect.{holdersBy}
 use Rattle.laws.specs.TestLaws.{tells-eq}
 use Rattle.model.specs.Sound.{frameBy}
 use Rattle.model.specs.LookupLaws.{never-found, same-slot}
-use Rattle.keeping.specs.RowSearchLaws.{first-found, first-missing, first-only, first-nowhere}
+use Rattle.model.specs.FoundRowLaws.{first-found, first-missing, first-only, first-nowhere}
 use Rattle.keeping.specs.Owing.{entryAt, ByEntry, ByRange, Backs}
 
 -- whether an entry is of a row and a page

@@ -13,25 +13,26 @@ use Rattle.address.specs.Pages.{aligned}
 use Rattle.model.specs.declared.Region.{Region}
 use Rattle.model.specs.declared.Done.{Done}
 use Rattle.model.specs.declared.Done.the-variants.{Yes, No}
-use Rattle.laws.specs.Lists.{part, keep, pad}
+use Rattle.laws.specs.Lists.{part, keep, pad, count}
 use Rattle.model.specs.Machine.{Machine, State, withOrder, processAt, regionAt, rowOf, orderOf, noRegion, attachedOf, noProcess}
 use Rattle.model.specs.Answers.{firstOf}
-use Rattle.model.specs.Lookup.{count, isShared, isRanged, spanEnd, freeSlot, freeSlots, rowFound, isFound, regionsOf}
+use Rattle.model.specs.Lookup.{isShared, isRanged, spanEnd, freeSlot, freeSlots, rowFound, isFound, regionsOf}
 use Rattle.model.specs.Create.{one}
 use Rattle.model.specs.Carve.{badBounds, strictlyInside, lowPart, highPart, giveEntries, splitAt, push, Rest, splitBound, splitAtBounds, slotsNeeded, splitRefusals, carveEach, partial, carveSplits, coreCarve}
 use Rattle.model.specs.Refusals.{carveRefusals}
 use Rattle.model.specs.Calls as calls
 use Rattle.model.specs.Run.{Call, call, step}
 use Rattle.model.specs.Sound.{Sound, Used}
-use Rattle.model.specs.LookupLaws.{both-true}
-use Rattle.model.specs.MachineLaws.{order-put, pad-length}
-use Rattle.keeping.specs.Bools.{or-none}
-use Rattle.keeping.specs.SetLaws.{set-twice}
-use Rattle.keeping.specs.In.{In, Once}
-use Rattle.keeping.specs.InLaws.{in-left, in-right, in-either, once-insert, once-join}
-use Rattle.keeping.specs.ListsLaws.{in-keep, keep-in, once-keep, few-below}
-use Rattle.keeping.specs.PartLaws.{part-row, part-length, part-set, put-part-again}
-use Rattle.keeping.specs.CountLaws.{count-put, count-found, count-still}
+use Rattle.laws.specs.BoolLaws.{both-true, or-none}
+use Rattle.model.specs.MachineLaws.{order-put}
+use Rattle.laws.specs.ListsLaws.{pad-length, part-at, part-length, put-part-again}
+use Rattle.laws.specs.SetLaws.{set-twice}
+use Rattle.laws.specs.In.{In, Once}
+use Rattle.laws.specs.InLaws.{in-left, in-right, in-either, once-insert, once-join}
+use Rattle.laws.specs.InListsLaws.{in-keep, keep-in, once-keep, few-below}
+use Rattle.laws.specs.PartLaws.{part-set}
+use Rattle.laws.specs.CountLaws.{count-put, count-still}
+use Rattle.model.specs.FoundRowLaws.{count-found}
 use Rattle.keeping.specs.Owing.{rowAt, Owing, nothing}
 use Rattle.keeping.specs.OwingLaws.{open-low, listed-open, slot-pinned}
 use Rattle.keeping.specs.OrderKept.{order-kept, opened-same}
@@ -227,12 +228,12 @@ module _ (d : ℕ → ℕ) (p : ℕ) (x : Machine) (l : List ℕ) (s : ℕ) (out
       let free : Region → Bool = λ r. eqb (r .kind) 0 in
       let low-row : Region = lowPart (regionAt x p s) b in
       let first : List Region = set (x .regions) (rowOf p s) low-row in
-      let long : length (part 64 p first) ≡ 64 = part-length 64 p first (rw length-set (omega arith)) in
+      let long : length (part 64 p first) ≡ 64 = part-length first 64 p (rw length-set (omega arith)) in
       let other-row = getD-set-other (x .regions) (rowOf p s) (rowOf p t) low-row noRegion (λ z. s-is .1 (ap (λ (j : ℕ). rowAt x j .kind) (sym z) ∙ is-free .1)) in
-      let was-free = ap free (part-row 64 p t first noRegion c ∙ other-row) ∙ eq-eqb _ 0 (is-free .1) in
+      let was-free = ap free (part-at first 64 p t noRegion c ∙ other-row) ∙ eq-eqb _ 0 (is-free .1) in
       let now-used = ne-eqb (regionAt x p s .kind) 0 (s-is .1) in
       let high-put = count-put free noRegion (part 64 p first) t (highPart (regionAt x p s) b) (omega arith) was-free now-used in
-      let low-put = count-still free noRegion (part 64 p (x .regions)) s low-row (ap free (sym (part-row 64 p s (x .regions) noRegion a))) in
+      let low-put = count-still free noRegion (part 64 p (x .regions)) s low-row (ap free (sym (part-at (x .regions) 64 p s noRegion a))) in
       ap (λ y. count free y + 1) (part-set 64 p t first (highPart (regionAt x p s) b) c)
       ∙ high-put
       ∙ ap (λ y. count free y) (part-set 64 p s (x .regions) low-row a)

@@ -21,9 +21,9 @@ use Rattle.model.specs.Segments.{reserved}
 use Rattle.model.specs.Create.{addRegion}
 use Rattle.model.specs.Clone.{Held, singlePages, rangePages, backedPages, copiedRow, copyEntry}
 use Rattle.model.specs.Sound.{Used, Apart, Limits}
-use Rattle.keeping.specs.In.{In}
-use Rattle.keeping.specs.InLaws.{in-either, in-map}
-use Rattle.keeping.specs.ListsLaws.{in-keep, in-up}
+use Rattle.laws.specs.In.{In}
+use Rattle.laws.specs.InLaws.{in-either, in-map}
+use Rattle.laws.specs.InListsLaws.{in-keep, in-up}
 use Rattle.keeping.specs.Owing.{rowAt, entryAt, Owing, Lent, nothing}
 use Rattle.keeping.specs.OwingLaws.{open-low, listed-open, unowned}
 use Rattle.keeping.specs.BacksLaws.{no-entry}

@@ -20,9 +20,9 @@ use Rattle.model.specs.Refusals.{slotAt, cloneRegionRefusals, cloneProcessRefus
 use Rattle.model.specs.Calls as calls
 use Rattle.model.specs.Run.{Call, call, step}
 use Rattle.model.specs.Sound.{Sound}
-use Rattle.keeping.specs.Bools.{or-none}
-use Rattle.keeping.specs.In.{In}
-use Rattle.keeping.specs.ListsLaws.{in-keep}
+use Rattle.laws.specs.BoolLaws.{or-none}
+use Rattle.laws.specs.In.{In}
+use Rattle.laws.specs.InListsLaws.{in-keep}
 use Rattle.keeping.specs.Owing.{Owing, nothing}
 use Rattle.keeping.specs.OwingOfSound.{sound-owing, sound-lent}
 use Rattle.keeping.specs.SoundOfOwing.{owing-sound}

@@ -10,14 +10,16 @@ use lib.Dec.{eqb, ltb}
 use borrow.Author.Tests.{eqb-true, eq-eqb, ne-eqb}
 use Rattle.model.specs.declared.Entry.{Entry}
 use Rattle.model.specs.Machine.{Machine, noEntry}
-use Rattle.model.specs.Lookup.{count, freeEntry, freeEntries, isFound, contains}
+use Rattle.model.specs.Lookup.{freeEntry, freeEntries, isFound, contains}
+use Rattle.laws.specs.Lists.{count}
 use Rattle.model.specs.Paging.{pageStart}
 use Rattle.model.specs.Backing.{backingAt}
 use Rattle.model.specs.Clone.{Held, inOrder, singlePages}
-use Rattle.keeping.specs.SetLaws.{each-row}
-use Rattle.keeping.specs.In.{In}
-use Rattle.keeping.specs.InLaws.{in-later}
-use Rattle.keeping.specs.CountLaws.{count-put, count-found}
+use Rattle.laws.specs.SetLaws.{each-row}
+use Rattle.laws.specs.In.{In}
+use Rattle.laws.specs.InLaws.{in-later}
+use Rattle.laws.specs.CountLaws.{count-put}
+use Rattle.model.specs.FoundRowLaws.{count-found}
 use Rattle.keeping.specs.Owing.{entryAt, Owing, rowAt}
 use Rattle.keeping.specs.EntriesKept.{entryOn}
 

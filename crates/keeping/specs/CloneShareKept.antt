@@ -15,9 +15,9 @@ use Rattle.model.specs.declared.Backing.{Backing}
 use Rattle.model.specs.declared.Region.{Region}
 use Rattle.model.specs.declared.Mapping.{Mapping}
 use Rattle.model.specs.declared.Process.{Process}
-use Rattle.laws.specs.Lists.{part, each}
+use Rattle.laws.specs.Lists.{part, each, count}
 use Rattle.model.specs.Machine.{Machine, withMapped, withOrder, processAt, regionAt, rowOf, orderOf, mappedOf, attachedOf, noProcess, noRegion, noBacking, noEntry}
-use Rattle.model.specs.Lookup.{contains, isShared, isRanged, segmentLen, freeSlot, freeEntries, rowFound, isFound, count}
+use Rattle.model.specs.Lookup.{contains, isShared, isRanged, segmentLen, freeSlot, freeEntries, rowFound, isFound}
 use Rattle.model.specs.Paging.{mapsIn, mapping, remapWhere, pageStart, isWritable}
 use Rattle.model.specs.Backing.{backingAt, hold, withBackings}
 use Rattle.model.specs.Segments.{reserved}
@@ -26,8 +26,9 @@ use Rattle.model.specs.Clone.{singlePages, sharedRow, demote, shareEntry, share
 use Rattle.model.specs.Sound.{Used, Apart, Flagged, Limits, Hold}
 use Rattle.model.specs.MachineLaws.{mapped-put, order-mapped}
 use Rattle.model.specs.MappedBelowLaws.{length-remap}
-use Rattle.keeping.specs.In.{In}
-use Rattle.keeping.specs.Owing.{rowAt, entryAt, Backs, Placed, Owing, rangeHold, Holds}
+use Rattle.laws.specs.In.{In}
+use Rattle.keeping.specs.Owing.{rowAt, entryAt, Backs, Placed, Owing, Holds}
+use Rattle.model.specs.HolderLaws.{rangeHold}
 use Rattle.keeping.specs.OwingLaws.{open-low, listed-open, home-one, unowned}
 use Rattle.keeping.specs.AlikeLaws.{limits-pins, limits-as, placed-with, alike-same}
 use Rattle.keeping.specs.MappedKept.{opened-same}

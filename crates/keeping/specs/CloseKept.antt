@@ -22,10 +22,10 @@ use Rattle.model.specs.Calls as calls
 use Rattle.model.specs.Run.{Call, call, step}
 use Rattle.model.specs.Sound.{Sound}
 use Rattle.model.specs.MachineLaws.{books-let-go}
-use Rattle.keeping.specs.In.{In, Once}
-use Rattle.keeping.specs.InLaws.{in-at}
-use Rattle.keeping.specs.ListsLaws.{any-false, without, in-without}
-use Rattle.keeping.specs.PartLaws.{part-row, part-length}
+use Rattle.laws.specs.In.{In, Once}
+use Rattle.laws.specs.InLaws.{in-at}
+use Rattle.laws.specs.InListsLaws.{any-false, without, in-without}
+use Rattle.laws.specs.ListsLaws.{part-at, part-length}
 use Rattle.keeping.specs.Owing.{Owing, nothing}
 use Rattle.keeping.specs.OwingLaws.{open-low, slot-pinned}
 use Rattle.keeping.specs.ProcessesKept.{process-kept}
@@ -100,10 +100,10 @@ module _ (d : ℕ → ℕ) (m : Machine) (o : Owing d m) (p : ℕ) (low : p < 8)
   unfolding pinStands
   unpinned t h =
       let size = o .sizes .regions in
-      let few = part-length 64 p (m .regions) (omega arith) in
+      let few = part-length (m .regions) 64 p (omega arith) in
       let e = any-false isPinned (getD (regionsOf m p) t noRegion) (regionsOf m p) stands (in-at noRegion (regionsOf m p) t (omega arith)) in
       let k = ltb-false 0 (getD (regionsOf m p) t noRegion .pins) e in
-      let same = ap (λ (r : Region). r .pins) (part-row 64 p t (m .regions) noRegion h) in
+      let same = ap (λ (r : Region). r .pins) (part-at (m .regions) 64 p t noRegion h) in
       omega arith
 
   -- with its regions removed
@@ -129,7 +129,7 @@ module _ (d : ℕ → ℕ) (m : Machine) (o : Owing d m) (p : ℕ) (low : p < 8)
       go (yes z) = sym z
       go (no z) =
           let size = owing .sizes .order in
-          let few = part-length 64 p (emptied .order) (omega arith) in
+          let few = part-length (emptied .order) 64 p (omega arith) in
           let long = length-take (processAt emptied p .attached) (part 64 p (emptied .order)) in
           absurd (nothing-listed _ (in-at 0 (orderOf emptied p) 0 (omega (arith, z))))
 
@@ -141,7 +141,7 @@ module _ (d : ℕ → ℕ) (m : Machine) (o : Owing d m) (p : ℕ) (low : p < 8)
       go (yes z) = sym z
       go (no z) =
           let size = owing .sizes .mapped in
-          let few = part-length 128 p (emptied .mapped) (omega arith) in
+          let few = part-length (emptied .mapped) 128 p (omega arith) in
           let long = length-take (processAt emptied p .mapped) (part 128 p (emptied .mapped)) in
           let k = owing .mapped p low _ (in-at noMapping (mappedOf emptied p) 0 (omega (arith, z))) in
           absurd (nothing-listed (k .slot) (k .listed))

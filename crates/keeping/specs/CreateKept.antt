@@ -22,7 +22,7 @@ use Rattle.model.specs.Calls as calls
 use Rattle.model.specs.Run.{Call, call, step}
 use Rattle.model.specs.Sound.{Sound, Used, Hold}
 use Rattle.model.specs.LookupLaws.{never-found}
-use Rattle.keeping.specs.Bools.{or-none}
+use Rattle.laws.specs.BoolLaws.{or-none}
 use Rattle.keeping.specs.Owing.{Owing, Holds, nothing}
 use Rattle.keeping.specs.OwingLaws.{open-low}
 use Rattle.keeping.specs.OwingOfSound.{sound-owing, sound-lent}

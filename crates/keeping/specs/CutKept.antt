@@ -14,20 +14,20 @@ use borrow.Author.Tests.{eqb-true, eqb-false, eq-eqb, ne-eqb, leb-true, leb-fals
 use Rattle.model.specs.declared.Entry.{Entry}
 use Rattle.model.specs.declared.Region.{Region}
 use Rattle.model.specs.declared.Mapping.{Mapping}
-use Rattle.laws.specs.Lists.{keep}
+use Rattle.laws.specs.Lists.{keep, count}
 use Rattle.model.specs.Machine.{Machine, withRegion, processAt, regionAt, rowOf, orderOf, mappedOf, noEntry, noRegion}
-use Rattle.model.specs.Lookup.{count, contains, isFile}
+use Rattle.model.specs.Lookup.{contains, isFile}
 use Rattle.model.specs.Paging.{pageStart}
 use Rattle.model.specs.Backing.{backingAt}
 use Rattle.model.specs.Create.{one}
 use Rattle.model.specs.Carve.{lowPart, highPart, giveEntries}
 use Rattle.model.specs.Pins.{withPins}
 use Rattle.model.specs.Sound.{Used, Apart, Flagged, RegionFits, Limits, EntryFits, Entered, Hold, holdersOf}
-use Rattle.model.specs.LookupLaws.{both-true}
-use Rattle.keeping.specs.In.{In}
-use Rattle.keeping.specs.Owing.{rowAt, entryAt, Backs, Placed, Owing, Holds, entryHold, rangeHold, EntryHolds, RangeHolds}
+use Rattle.laws.specs.BoolLaws.{both-true}
+use Rattle.laws.specs.In.{In}
+use Rattle.keeping.specs.Owing.{rowAt, entryAt, Backs, Placed, Owing, Holds, EntryHolds, RangeHolds}
+use Rattle.model.specs.HolderLaws.{entryHold, rangeHold, oneIf, weight, holding-put, entryTaken, rangeTaken, entriesHold, holders-split, holding-cons, weight-taken, weight-unranged, weight-unused}
 use Rattle.keeping.specs.OwingLaws.{open-low, listed-open, listed-row, apart-turn, unowned}
-use Rattle.keeping.specs.HolderCounts.{oneIf, weight, holding-put, entryTaken, rangeTaken, entriesHold, holders-split, holding-cons, weight-taken, weight-unranged, weight-unused}
 use Rattle.keeping.specs.AlikeLaws.{fits-as, pool-as, sizes-as, by-entry-as}
 
 -- an entry given away

@@ -19,7 +19,7 @@ use Rattle.model.specs.Pins.{withPins}
 use Rattle.model.specs.Remove.{framesOf, dropRegion}
 use Rattle.model.specs.Sound.{Used}
 use Rattle.model.specs.MachineLaws.{Books, books-then, books-let-go, books-order}
-use Rattle.keeping.specs.In.{In}
+use Rattle.laws.specs.In.{In}
 use Rattle.keeping.specs.Owing.{rowAt, entryAt, Owing, Unlisted}
 use Rattle.keeping.specs.BackingsKept.{let-go-kept}
 use Rattle.keeping.specs.SlotsKept.{owes, owes-range, owes-nothing, slot-freed}

@@ -15,12 +15,12 @@ use Rattle.model.specs.Lookup.{contains, freeEntry, rowFound, isFound}
 use Rattle.model.specs.Paging.{pageStart}
 use Rattle.model.specs.Backing.{backingAt}
 use Rattle.model.specs.Sound.{Used, Hold, EntryFits, holdersOf}
-use Rattle.keeping.specs.SetLaws.{each-row}
-use Rattle.keeping.specs.In.{In}
-use Rattle.keeping.specs.RowSearchLaws.{first-found}
-use Rattle.keeping.specs.Owing.{rowAt, entryAt, Backs, Placed, Owing, Holds, Agree, entryHold}
+use Rattle.laws.specs.SetLaws.{each-row}
+use Rattle.laws.specs.In.{In}
+use Rattle.model.specs.FoundRowLaws.{first-found}
+use Rattle.keeping.specs.Owing.{rowAt, entryAt, Backs, Placed, Owing, Holds, Agree}
+use Rattle.model.specs.HolderLaws.{entryHold, oneIf, weight, holding-put, entryTaken, holders-split, weight-free, weight-taken}
 use Rattle.keeping.specs.OwingLaws.{taken-there}
-use Rattle.keeping.specs.HolderCounts.{oneIf, weight, holding-put, entryTaken, holders-split, weight-free, weight-taken}
 use Rattle.keeping.specs.ViewLaws.{agree-more}
 use Rattle.keeping.specs.AlikeLaws.{alike-same, fits-as, entry-as, pool-as, sizes-as, by-entry-as}
 use Rattle.keeping.specs.BackingsKept.{more}

@@ -30,10 +30,10 @@ use Rattle.model.specs.Refusals.{slotAt, regionRefusals}
 use Rattle.model.specs.Calls as calls
 use Rattle.model.specs.Run.{Call, call, step}
 use Rattle.model.specs.Sound.{Sound, Flagged, frameBy}
-use Rattle.model.specs.LookupLaws.{both-true}
+use Rattle.laws.specs.BoolLaws.{both-true}
 use Rattle.model.specs.MachineLaws.{mapped-length}
 use Rattle.model.specs.MappedBelowLaws.{length-map, length-unmap, length-unmapped}
-use Rattle.keeping.specs.In.{In}
+use Rattle.laws.specs.In.{In}
 use Rattle.keeping.specs.Owing.{Owing, Placed, nothing, Backs}
 use Rattle.keeping.specs.OwingLaws.{open-low, home-one, listed-open}
 use Rattle.keeping.specs.BacksLaws.{source-of, backing-of}

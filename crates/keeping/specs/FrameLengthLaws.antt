@@ -11,7 +11,7 @@ use Rattle.model.specs.Machine.{State, withFrames, noFile}
 use Rattle.model.specs.Lookup.{isFile}
 use Rattle.model.specs.Backing.{frameBytes, putFrame, zeroFrames}
 use Rattle.model.specs.Fault.{fillOf, filePage}
-use Rattle.model.specs.MachineLaws.{pad-length}
+use Rattle.laws.specs.ListsLaws.{pad-length}
 use Rattle.keeping.specs.Owing.{Lent}
 
 -- a frame read is a page of bytes

@@ -16,11 +16,11 @@ use Rattle.laws.specs.Lists.{upFrom}
 use Rattle.model.specs.Machine.{Machine, noBacking}
 use Rattle.model.specs.Backing.{backingAt, inSome, freeFrames, runFrom, lowestRun, claim, withBackings}
 use Rattle.model.specs.Sound.{freeOf}
-use Rattle.model.specs.LookupLaws.{never-found, same-slot, both-true}
-use Rattle.keeping.specs.Bools.{or-none}
-use Rattle.keeping.specs.SetLaws.{each-row}
-use Rattle.keeping.specs.In.{In, Once}
-use Rattle.keeping.specs.ListsLaws.{in-keep, first-in, in-up, keep-in, once-keep, keep-one, without, subset-most, once-up, up-in, in-without, once-without}
+use Rattle.model.specs.LookupLaws.{never-found, same-slot}
+use Rattle.laws.specs.BoolLaws.{both-true, or-none}
+use Rattle.laws.specs.SetLaws.{each-row}
+use Rattle.laws.specs.In.{In, Once}
+use Rattle.laws.specs.InListsLaws.{in-keep, first-in, in-up, keep-in, once-keep, keep-one, without, subset-most, once-up, up-in, in-without, once-without}
 use Rattle.keeping.specs.Owing.{Owing}
 use Rattle.keeping.specs.BackingsKept.{FreeRun}
 

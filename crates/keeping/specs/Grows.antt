@@ -11,8 +11,8 @@ use Rattle.model.specs.Lookup.{freeSlot, rowFound}
 use Rattle.model.specs.Backing.{hold, claim, addEntry, withBackings}
 use Rattle.model.specs.Create.{addRegion}
 use Rattle.model.specs.Clone.{Held, shareEntry, copyEntry}
-use Rattle.keeping.specs.In.{In}
-use Rattle.keeping.specs.InLaws.{in-left}
+use Rattle.laws.specs.In.{In}
+use Rattle.laws.specs.InLaws.{in-left}
 use Rattle.keeping.specs.Owing.{Owing}
 use Rattle.keeping.specs.SlotsKept.{owes}
 use Rattle.keeping.specs.CoreKept.{Lends}

@@ -1,18 +1,9 @@
 -- Every call keeps a sound machine sound. The rooms in reading order: the theorems are in the last two.
 -- lists, rows, tests: nothing of the machine
-pub mod Bools
-pub mod SetLaws
-pub mod ListsLaws
-pub mod InLaws
-pub mod PartLaws
-pub mod In
 -- the model's small functions on lists
-pub mod RowSearchLaws
-pub mod CountLaws
 -- the rules by row and by membership, with holders that are owed
 pub mod Owing
 pub mod OwingLaws
-pub mod HolderCounts
 pub mod BacksLaws
 pub mod ViewLaws
 pub mod OwingOfSound

@@ -13,10 +13,11 @@ use Rattle.laws.specs.Lists.{part, pad}
 use Rattle.model.specs.Machine.{Machine, processAt, mappedOf, withMapped, mappedCount, noProcess, noMapping}
 use Rattle.laws.specs.Tests.{Rows, Pairs}
 use Rattle.model.specs.Sound.{Paged, holdersOf, holds}
-use Rattle.model.specs.MachineLaws.{part-put, pad-length, mapped-put, order-mapped}
-use Rattle.keeping.specs.SetLaws.{each-row, set-twice}
-use Rattle.keeping.specs.In.{In, Once}
-use Rattle.keeping.specs.PartLaws.{put-part-length, put-part-again, part-put-other, pad-past}
+use Rattle.model.specs.MachineLaws.{mapped-put, order-mapped}
+use Rattle.laws.specs.ListsLaws.{part-put, pad-length, put-part-length, put-part-again, pad-past}
+use Rattle.laws.specs.SetLaws.{each-row, set-twice}
+use Rattle.laws.specs.In.{In, Once}
+use Rattle.laws.specs.PartLaws.{part-put-other}
 use Rattle.keeping.specs.Owing.{rowAt, Sizes, Arena, Placed, Owing}
 use Rattle.keeping.specs.OwingLaws.{open-low}
 use Rattle.keeping.specs.AlikeLaws.{alike-same, fits-as, entry-as, placed-as, pool-as, sizes-as}

@@ -8,8 +8,8 @@ use Rattle.model.specs.declared.Found.the-variants.{At, Nothing}
 use Rattle.model.specs.Machine.{Machine, processAt, regionAt, orderOf}
 use Rattle.model.specs.Lookup.{isOpen, isFound, rowFound, regionFor, contains}
 use Rattle.model.specs.LookupLaws.{first-found}
-use Rattle.keeping.specs.In.{In}
-use Rattle.keeping.specs.ListsLaws.{among-in}
+use Rattle.laws.specs.In.{In}
+use Rattle.laws.specs.InListsLaws.{among-in}
 
 -- the slot of an attached region at an address
 pub record Named (m : Machine) (p slot a : ℕ) : Type 0 where

@@ -15,8 +15,8 @@ use Rattle.model.specs.Refusals.{openRefusals, closedRow}
 use Rattle.model.specs.Calls as calls
 use Rattle.model.specs.Run.{Call, call, step}
 use Rattle.model.specs.Sound.{Sound}
-use Rattle.keeping.specs.Bools.{or-none}
-use Rattle.keeping.specs.RowSearchLaws.{first-found}
+use Rattle.laws.specs.BoolLaws.{or-none}
+use Rattle.model.specs.FoundRowLaws.{first-found}
 use Rattle.keeping.specs.Owing.{Owing, nothing}
 use Rattle.keeping.specs.ProcessesKept.{process-kept}
 use Rattle.keeping.specs.GuardedKept.{guarded-kept}

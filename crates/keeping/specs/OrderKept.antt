@@ -13,10 +13,11 @@ use Rattle.laws.specs.Lists.{part, pad}
 use Rattle.model.specs.Machine.{Machine, processAt, regionAt, rowOf, orderOf, mappedOf, withOrder, attachedOf, noProcess, noMapping}
 use Rattle.laws.specs.Tests.{Rows}
 use Rattle.model.specs.Sound.{Used, holdersOf, holds}
-use Rattle.model.specs.MachineLaws.{part-put, pad-length, order-put}
-use Rattle.keeping.specs.SetLaws.{each-row}
-use Rattle.keeping.specs.In.{In, Once}
-use Rattle.keeping.specs.PartLaws.{put-part-length, part-put-other, pad-past}
+use Rattle.model.specs.MachineLaws.{order-put}
+use Rattle.laws.specs.ListsLaws.{part-put, pad-length, put-part-length, pad-past}
+use Rattle.laws.specs.SetLaws.{each-row}
+use Rattle.laws.specs.In.{In, Once}
+use Rattle.laws.specs.PartLaws.{part-put-other}
 use Rattle.keeping.specs.Owing.{rowAt, Arena, Placed, Owing}
 use Rattle.keeping.specs.OwingLaws.{open-low}
 use Rattle.keeping.specs.AlikeLaws.{alike-same, fits-as, entry-as, placed-as, pool-as, sizes-as}

@@ -13,13 +13,12 @@ use Rattle.model.specs.declared.Mapping.{Mapping}
 use Rattle.model.specs.declared.Entry.{Entry}
 use Rattle.laws.specs.Lists.{part}
 use Rattle.model.specs.Machine.{Machine, State, processAt, regionAt, rowOf, orderOf, mappedOf, noProcess, noRegion, noEntry, noFile, userEnd}
-use Rattle.model.specs.Lookup.{contains, isShared}
+use Rattle.model.specs.Lookup.{contains}
 use Rattle.model.specs.Paging.{pageStart}
 use Rattle.model.specs.Backing.{backingAt}
-use Rattle.model.specs.Create.{one}
 use Rattle.laws.specs.Tests.{Rows}
 use Rattle.model.specs.Sound.{Used, Apart, R2, Hold, Flagged, RegionFits, EntryFits, Paged, FileFits, holdersOf}
-use Rattle.keeping.specs.In.{In, Once}
+use Rattle.laws.specs.In.{In, Once}
 
 -- rows by number, a free one past the end
 abbrev pub rowAt : Machine → ℕ → Region
@@ -78,15 +77,6 @@ pub record Placed (m : Machine) (p : ℕ) (x : Mapping) : Type 0 where
   pub base : ℕ
   pub backed : Backs m (rowOf p slot) (x .page .0) base (x .frame .0)
   pub flagged : Flagged (regionAt m p slot) (x .flags .0) (backingAt m base .holders)
-
--- ---- the holds of a machine
-
--- the hold of an entry, of a range
-abbrev pub entryHold : Entry → Hold
-entryHold e = record { frame = e .frame .0; page = e .page .0; shared = 0 }
-
-abbrev pub rangeHold : Region → Hold
-rangeHold r = record { frame = r .range .0; page = r .start .0 / 4096; shared = one (isShared r) }
 
 -- h is the hold of an entry in use
 pub record EntryHolds (l : List Entry) (h : Hold) : Type 0 where

@@ -15,9 +15,9 @@ use Rattle.laws.specs.Lists.{part}
 use Rattle.model.specs.Machine.{Machine, processAt, noProcess, orderOf, rowOf, regionAt, noRegion, noEntry}
 use Rattle.model.specs.Lookup.{contains, segmentEnd}
 use Rattle.model.specs.Sound.{Apart, Used}
-use Rattle.model.specs.LookupLaws.{both-true}
-use Rattle.keeping.specs.SetLaws.{row-there}
-use Rattle.keeping.specs.In.{In}
+use Rattle.laws.specs.BoolLaws.{both-true}
+use Rattle.laws.specs.SetLaws.{row-there}
+use Rattle.laws.specs.In.{In}
 use Rattle.keeping.specs.Owing.{Owing, rowAt, entryAt}
 
 -- an open process has a row

@@ -17,10 +17,10 @@ use Rattle.model.specs.Machine.{Machine, State, processAt, regionAt, orderOf, m
 use Rattle.model.specs.Lookup.{regionsOf}
 use Rattle.model.specs.Backing.{backingAt}
 use Rattle.model.specs.Sound.{Sound, Used, Apart, Hold, noHold, holds, holdersOf, RegionFits, EntryFits, Flagged}
-use Rattle.keeping.specs.SetLaws.{row-there}
-use Rattle.keeping.specs.In.{In}
-use Rattle.keeping.specs.ListsLaws.{rows-in, pairs-once, among-in, pairs-in}
-use Rattle.keeping.specs.PartLaws.{part-row, part-length}
+use Rattle.laws.specs.SetLaws.{row-there}
+use Rattle.laws.specs.In.{In}
+use Rattle.laws.specs.InListsLaws.{rows-in, pairs-once, among-in, pairs-in}
+use Rattle.laws.specs.ListsLaws.{part-at, part-length}
 use Rattle.keeping.specs.Owing.{rowAt, entryAt, Arena, Placed, Holds, Agree, Owing, nothing, Lent}
 use Rattle.keeping.specs.OwingLaws.{apart-turn, taken-there, used-there}
 use Rattle.keeping.specs.BacksLaws.{source-of}
@@ -30,7 +30,7 @@ use Rattle.keeping.specs.ViewLaws.{home-listed, in-holds, held-none, hol
 pub row-in-part : (m : Machine) (i : ℕ) → getD (regionsOf m (i / 64)) (i % 64) noRegion ≡ rowAt m i
 row-in-part m i =
     let e : i / 64 * 64 + i % 64 ≡ i = omega arith in
-    part-row 64 (i / 64) (i % 64) (m .regions) noRegion (omega arith) ∙ ap (λ (j : ℕ). rowAt m j) e
+    part-at (m .regions) 64 (i / 64) (i % 64) noRegion (omega arith) ∙ ap (λ (j : ℕ). rowAt m j) e
 
 module _ (s : State) (sound : Sound s) where
   abbrev m : Machine
@@ -46,7 +46,7 @@ module _ (s : State) (sound : Sound s) where
   used-row i u = let h = used-there m i u in let k = regions-size in omega arith
 
   slots-size : (p : ℕ) → p < 8 → length (regionsOf m p) ≡ 64
-  slots-size p h = let k = regions-size in part-length 64 p (m .regions) (omega arith)
+  slots-size p h = let k = regions-size in part-length (m .regions) 64 p (omega arith)
 
   there : (p : ℕ) → p < 8 → p < length (m .processes)
   there p h = let k = processes-size in omega arith

@@ -23,9 +23,10 @@ use Rattle.model.specs.Fault.{reEntry, byEntry}
 use Rattle.model.specs.Sound.{Used, Flagged, Hold}
 use Rattle.model.specs.MachineLaws.{order-mapped, Books, books-then, books-claim, books-add-entry, books-order, books-mapped}
 use Rattle.model.specs.MappedBelowLaws.{length-map}
-use Rattle.keeping.specs.SetLaws.{each-row}
-use Rattle.keeping.specs.In.{In}
-use Rattle.keeping.specs.Owing.{rowAt, entryAt, Placed, Owing, Holds, entryHold}
+use Rattle.laws.specs.SetLaws.{each-row}
+use Rattle.laws.specs.In.{In}
+use Rattle.keeping.specs.Owing.{rowAt, entryAt, Placed, Owing, Holds}
+use Rattle.model.specs.HolderLaws.{entryHold}
 use Rattle.keeping.specs.OwingLaws.{open-low, taken-there, listed-open}
 use Rattle.keeping.specs.BacksLaws.{entry-of, none-of}
 use Rattle.keeping.specs.MappedKept.{mapped-kept, mapped-again}

@@ -14,9 +14,9 @@ use Rattle.laws.specs.Lists.{keep}
 use Rattle.model.specs.Machine.{noMapping}
 use Rattle.model.specs.Paging.{mapping, mapPage, unmapPage, remapWhere}
 use Rattle.model.specs.MappedBelowLaws.{length-remap}
-use Rattle.keeping.specs.In.{In}
-use Rattle.keeping.specs.InLaws.{in-at, in-row, in-map, in-later}
-use Rattle.keeping.specs.ListsLaws.{in-keep}
+use Rattle.laws.specs.In.{In}
+use Rattle.laws.specs.InLaws.{in-at, in-row, in-map, in-later}
+use Rattle.laws.specs.InListsLaws.{in-keep}
 use Rattle.keeping.specs.MappedKept.{Rising}
 
 -- by membership: every later page is higher

@@ -12,8 +12,9 @@ use Rattle.model.specs.Paging.{remapWhere}
 use Rattle.model.specs.Backing.{backingAt}
 use Rattle.model.specs.MachineLaws.{mapped-length, mapped-put}
 use Rattle.model.specs.MappedBelowLaws.{length-remap}
-use Rattle.keeping.specs.In.{In}
-use Rattle.keeping.specs.ListsLaws.{in-keep, length-keep}
+use Rattle.laws.specs.In.{In}
+use Rattle.laws.specs.InListsLaws.{in-keep}
+use Rattle.laws.specs.ListsLaws.{keep-most}
 use Rattle.keeping.specs.Owing.{Backs, Owing, Placed}
 use Rattle.keeping.specs.OwingLaws.{open-low}
 use Rattle.keeping.specs.MappedKept.{mapped-kept}
@@ -28,7 +29,7 @@ module _ (d : ℕ → ℕ) (m : Machine) (o : Owing d m) where
   pub pages-kept : (p : ℕ) → processAt m p .opened ≡ 1 → (f : Mapping → Bool) → Owing d (withMapped m p (keep f (mappedOf m p)))
   pages-kept p opened f =
       let h = open-low m o p opened in
-      let less = length-keep f (mappedOf m p) in
+      let less = keep-most f (mappedOf m p) in
       let few = few-pages p h in
       mapped-kept d m o p opened (keep f (mappedOf m p)) (rising-keep f (mappedOf m p) (o .paged p h .rising)) (omega arith)
       (λ x k. o .mapped p h x (in-keep f x (mappedOf m p) k .0))
@@ -54,7 +55,7 @@ module _ (d : ℕ → ℕ) (m : Machine) (o : Owing d m) where
       let a = o .sizes .processes in
       let b = o .sizes .mapped in
       let few = few-pages p low in
-      let less = length-keep f (mappedOf m p) in
+      let less = keep-most f (mappedOf m p) in
       mapped-put m p (omega arith) (keep f (mappedOf m p)) (omega arith) (omega arith)
 
   -- what backs a page is in use

@@ -15,7 +15,7 @@ use Rattle.model.specs.Refusals.{slotAt, pinRefusals}
 use Rattle.model.specs.Calls as calls
 use Rattle.model.specs.Run.{Call, call, step}
 use Rattle.model.specs.Sound.{Sound, Used, Flagged, RegionFits}
-use Rattle.keeping.specs.In.{In}
+use Rattle.laws.specs.In.{In}
 use Rattle.keeping.specs.Owing.{Owing, Placed, rowAt, nothing}
 use Rattle.keeping.specs.OwingLaws.{open-low, listed-row}
 use Rattle.keeping.specs.AlikeLaws.{limits-pins}

@@ -18,8 +18,8 @@ use Rattle.model.specs.Calls as calls
 use Rattle.model.specs.Run.{Call, call, step}
 use Rattle.model.specs.Sound.{Sound}
 use Rattle.model.specs.LookupLaws.{first-found}
-use Rattle.keeping.specs.In.{In}
-use Rattle.keeping.specs.ListsLaws.{among-in}
+use Rattle.laws.specs.In.{In}
+use Rattle.laws.specs.InListsLaws.{among-in}
 use Rattle.keeping.specs.GuardedKept.{guarded-kept}
 use Rattle.keeping.specs.FaultKept.{fault-core}
 

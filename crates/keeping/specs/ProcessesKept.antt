@@ -9,8 +9,8 @@ use Rattle.laws.specs.Lists.{part}
 use Rattle.model.specs.Machine.{Machine, withProcesses, processAt, regionAt, rowOf, orderOf, mappedOf, noProcess, noMapping}
 use Rattle.laws.specs.Tests.{Rows}
 use Rattle.model.specs.Sound.{holdersOf, holds}
-use Rattle.keeping.specs.SetLaws.{each-row}
-use Rattle.keeping.specs.In.{In, Once}
+use Rattle.laws.specs.SetLaws.{each-row}
+use Rattle.laws.specs.In.{In, Once}
 use Rattle.keeping.specs.Owing.{rowAt, Arena, Owing}
 use Rattle.keeping.specs.AlikeLaws.{alike-same, fits-as, entry-as, placed-as, pool-as, sizes-as}
 use Rattle.keeping.specs.MappedKept.{Rising}

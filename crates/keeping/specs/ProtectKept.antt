@@ -25,8 +25,8 @@ use Rattle.model.specs.Run.{Call, call, step}
 use Rattle.model.specs.Sound.{Sound, Used, Flagged, RegionFits, Limits}
 use Rattle.model.specs.MachineLaws.{order-mapped}
 use Rattle.model.specs.MappedBelowLaws.{length-remap}
-use Rattle.keeping.specs.In.{In}
-use Rattle.keeping.specs.ListsLaws.{in-keep}
+use Rattle.laws.specs.In.{In}
+use Rattle.laws.specs.InListsLaws.{in-keep}
 use Rattle.keeping.specs.Owing.{Owing, Placed, rowAt, nothing}
 use Rattle.keeping.specs.OwingLaws.{open-low, home-one, listed-open}
 use Rattle.keeping.specs.BacksLaws.{backing-of}

@@ -22,13 +22,12 @@ use Rattle.model.specs.Refusals.{slotAt, unpinSlot, unpinRefusals, regionRefusa
 use Rattle.model.specs.Calls as calls
 use Rattle.model.specs.Run.{Call, call, step}
 use Rattle.model.specs.Sound.{Sound, Used}
-use Rattle.model.specs.LookupLaws.{both-true}
+use Rattle.laws.specs.BoolLaws.{both-true, or-none}
 use Rattle.model.specs.MachineLaws.{order-mapped}
-use Rattle.keeping.specs.Bools.{or-none}
-use Rattle.keeping.specs.In.{In, Once}
-use Rattle.keeping.specs.ListsLaws.{in-keep, among-in, in-among, without, in-without, without-in, length-without, once-without}
-use Rattle.keeping.specs.PartLaws.{part-row, part-length}
-use Rattle.keeping.specs.RowSearchLaws.{first-found}
+use Rattle.laws.specs.In.{In, Once}
+use Rattle.laws.specs.InListsLaws.{in-keep, among-in, in-among, without, in-without, without-in, length-without, once-without}
+use Rattle.laws.specs.ListsLaws.{part-at, part-length}
+use Rattle.model.specs.FoundRowLaws.{first-found}
 use Rattle.keeping.specs.Owing.{Owing, Placed, rowAt, nothing, Unlisted}
 use Rattle.keeping.specs.OwingLaws.{open-low, listed-open, listed-row, slot-pinned}
 use Rattle.keeping.specs.AlikeLaws.{Alike, alike-is, contains-as}
@@ -275,11 +274,11 @@ any-found d m o p a h e =
     let t : ℕ = rowFound (anyRegionFor m p a) in
     let k = first-found (λ r. isUsed r && contains r a) (regionsOf m p) t noRegion (found-at (anyRegionFor m p a) e) in
     let size = o .sizes .regions in
-    let few = part-length 64 p (m .regions) (omega arith) in
+    let few = part-length (m .regions) 64 p (omega arith) in
     let in-row = k .0 in
     let low : t < 64 = omega arith in
     let b = both-true (isUsed (getD (regionsOf m p) t noRegion)) (contains (getD (regionsOf m p) t noRegion) a) (k .1) in
-    (low, subst (λ (r : Region). Used r) (part-row 64 p t (m .regions) noRegion low) (eqb-false _ 0 (not-true _ (b .0))))
+    (low, subst (λ (r : Region). Used r) (part-at (m .regions) 64 p t noRegion low) (eqb-false _ 0 (not-true _ (b .0))))
 
 module _ (d : ℕ → ℕ) (m : Machine) (o : Owing d m) (p t : ℕ) (h : p < 8) (small : t < 64) (taken : Used (regionAt m p t))
     (pinned : 1 ≤ regionAt m p t .pins) where

@@ -20,10 +20,10 @@ use Rattle.model.specs.Paging.{pageStart, isWritable}
 use Rattle.model.specs.Backing.{backingAt, hold, addEntry, withBackings}
 use Rattle.model.specs.Clone.{Held, shareEntry}
 use Rattle.model.specs.Sound.{Used, Flagged, Hold, holdersOf, Apart}
-use Rattle.keeping.specs.In.{In}
-use Rattle.keeping.specs.Owing.{rowAt, entryAt, Backs, Placed, Owing, Holds, entryHold, rangeHold}
+use Rattle.laws.specs.In.{In}
+use Rattle.keeping.specs.Owing.{rowAt, entryAt, Backs, Placed, Owing, Holds}
+use Rattle.model.specs.HolderLaws.{entryHold, rangeHold, oneIf, weight, rangeTaken, weight-free, weight-taken, weight-ranged}
 use Rattle.keeping.specs.OwingLaws.{taken-there, used-there, apart-alone}
-use Rattle.keeping.specs.HolderCounts.{oneIf, weight, rangeTaken, weight-free, weight-taken, weight-ranged}
 use Rattle.keeping.specs.ViewLaws.{held-some}
 use Rattle.keeping.specs.BackingsKept.{more, backing-there, hold-kept}
 use Rattle.keeping.specs.SlotsKept.{row-counts}

@@ -13,11 +13,11 @@ use Rattle.model.specs.Machine.{Machine, withRegions, processAt, rowOf, orderOf
 use Rattle.model.specs.Backing.{backingAt}
 use Rattle.model.specs.Create.{one}
 use Rattle.model.specs.Sound.{Used, Apart, Flagged, RegionFits, Hold, holdersOf}
-use Rattle.keeping.specs.SetLaws.{each-row}
-use Rattle.keeping.specs.In.{In}
-use Rattle.keeping.specs.Owing.{rowAt, entryAt, Placed, Owing, Holds, Agree, rangeHold, Unlisted}
+use Rattle.laws.specs.SetLaws.{each-row}
+use Rattle.laws.specs.In.{In}
+use Rattle.keeping.specs.Owing.{rowAt, entryAt, Placed, Owing, Holds, Agree, Unlisted}
+use Rattle.model.specs.HolderLaws.{rangeHold, oneIf, weight, holding-put, rangeTaken, holders-split, weight-ranged, weight-unranged, weight-unused}
 use Rattle.keeping.specs.OwingLaws.{used-there, apart-turn}
-use Rattle.keeping.specs.HolderCounts.{oneIf, weight, holding-put, rangeTaken, holders-split, weight-ranged, weight-unranged, weight-unused}
 use Rattle.keeping.specs.ViewLaws.{agree-more}
 use Rattle.keeping.specs.AlikeLaws.{alike-is, fits-as, entry-as, placed-as, pool-as, Alike, sizes-as}
 use Rattle.keeping.specs.BackingsKept.{more}

@@ -16,10 +16,10 @@ use Rattle.model.specs.Backing.{backingAt, backing}
 use Rattle.model.specs.Protect.{holdersBy}
 use Rattle.model.specs.Sound.{Sound, Used, Apart, R1, noHold, holds, ProcessFits, Ordered, homeOf, Homed, Flagged, frameBy}
 use Rattle.model.specs.LookupLaws.{same-slot}
-use Rattle.keeping.specs.In.{In}
-use Rattle.keeping.specs.InLaws.{in-at}
-use Rattle.keeping.specs.ListsLaws.{in-rows, once-pairs, in-among, in-pairs}
-use Rattle.keeping.specs.PartLaws.{part-row, part-length}
+use Rattle.laws.specs.In.{In}
+use Rattle.laws.specs.InLaws.{in-at}
+use Rattle.laws.specs.InListsLaws.{in-rows, once-pairs, in-among, in-pairs}
+use Rattle.laws.specs.ListsLaws.{part-at, part-length}
 use Rattle.keeping.specs.Owing.{Placed, Agree, Owing, nothing, Lent}
 use Rattle.keeping.specs.OwingLaws.{home-one, slot-pinned}
 use Rattle.keeping.specs.BacksLaws.{backing-of}
@@ -27,10 +27,10 @@ use Rattle.keeping.specs.ViewLaws.{listed-home, holds-in}
 
 module _ (m : Machine) (o : Owing nothing m) where
   slot-row : (p t : ℕ) → t < 64 → getD (regionsOf m p) t noRegion ≡ regionAt m p t
-  slot-row p t h = part-row 64 p t (m .regions) noRegion h
+  slot-row p t h = part-at (m .regions) 64 p t noRegion h
 
   slots-size : (p : ℕ) → p < 8 → length (regionsOf m p) ≡ 64
-  slots-size p h = let k = o .sizes .regions in part-length 64 p (m .regions) (omega arith)
+  slots-size p h = let k = o .sizes .regions in part-length (m .regions) 64 p (omega arith)
 
   low : (p : ℕ) → p < length (m .processes) → p < 8
   low p h = let k = o .sizes .processes in omega arith

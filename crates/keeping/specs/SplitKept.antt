@@ -21,10 +21,10 @@ use Rattle.model.specs.Backing.{backingAt}
 use Rattle.model.specs.Carve.{lowPart, highPart, giveEntries, splitAt}
 use Rattle.model.specs.Pins.{withPins}
 use Rattle.model.specs.Sound.{Used, Flagged}
-use Rattle.model.specs.MachineLaws.{pad-length, order-mapped}
-use Rattle.keeping.specs.In.{In, Once}
-use Rattle.keeping.specs.ListsLaws.{in-keep, keep-in}
-use Rattle.keeping.specs.PartLaws.{put-part-again, part-length, put-part-same, pad-take}
+use Rattle.model.specs.MachineLaws.{order-mapped}
+use Rattle.laws.specs.ListsLaws.{pad-length, put-part-again, part-length, put-same, pad-take}
+use Rattle.laws.specs.In.{In, Once}
+use Rattle.laws.specs.InListsLaws.{in-keep, keep-in}
 use Rattle.keeping.specs.Owing.{rowAt, entryAt, Backs, Placed, Owing}
 use Rattle.keeping.specs.OwingLaws.{open-low, listed-open, listed-row, home-one, slot-pinned}
 use Rattle.keeping.specs.MappedKept.{mapped-kept}
@@ -48,7 +48,7 @@ process-back (x ∷ l) (suc p) a c n e = ap (λ t. x ∷ t) (process-back l p a 
 
 module _ (d : ℕ → ℕ) (m : Machine) (o : Owing d m) (p : ℕ) (low : p < 8) where
   table-rows : length (part 128 p (m .mapped)) ≡ 128
-  table-rows = let a = o .sizes .mapped in part-length 128 p (m .mapped) (omega arith)
+  table-rows = let a = o .sizes .mapped in part-length (m .mapped) 128 p (omega arith)
 
   count-is : length (mappedOf m p) ≡ processAt m p .mapped
   unfolding mappedOf
@@ -61,7 +61,7 @@ module _ (d : ℕ → ℕ) (m : Machine) (o : Owing d m) (p : ℕ) (low : p < 8)
       let twice = put-part-again 128 p (pad 128 noMapping rest) (pad 128 noMapping (mappedOf m p)) (m .mapped) (pad-length 128 noMapping rest) (omega arith) in
       let long = ap (λ (k : ℕ). pad k noMapping (take (processAt m p .mapped) (part 128 p (m .mapped)))) (sym table-rows) in
       let filled = pad-take noMapping (part 128 p (m .mapped)) (processAt m p .mapped) (o .paged p low .free) in
-      twice ∙ ap (λ t. putPart 128 p t (m .mapped)) (long ∙ filled) ∙ put-part-same 128 p (m .mapped)
+      twice ∙ ap (λ t. putPart 128 p t (m .mapped)) (long ∙ filled) ∙ put-same 128 p (m .mapped)
 
 -- ---- the split
 

@@ -30,10 +30,10 @@ use Rattle.model.specs.Segments.{segmentsIn, segmentsOf, managerOf, reserved, f
 use Rattle.model.specs.Create.{roundUp, badPlace, spot}
 use Rattle.model.specs.Sound.{Used}
 use Rattle.model.specs.LookupLaws.{never-found, same-slot}
-use Rattle.keeping.specs.Bools.{or-none}
-use Rattle.keeping.specs.In.{In}
-use Rattle.keeping.specs.InLaws.{in-at, in-row, in-later}
-use Rattle.keeping.specs.PartLaws.{part-row, part-length}
+use Rattle.laws.specs.BoolLaws.{or-none}
+use Rattle.laws.specs.In.{In}
+use Rattle.laws.specs.InLaws.{in-at, in-row, in-later}
+use Rattle.laws.specs.ListsLaws.{part-at, part-length}
 use Rattle.keeping.specs.Owing.{Owing}
 use Rattle.keeping.specs.OwingLaws.{open-low}
 
@@ -137,8 +137,8 @@ module _ (d : ℕ → ℕ) (m : Machine) (o : Owing d m) (p : ℕ) (low : p < 8)
   slot-in : (t : ℕ) → t < 64 → In (regionAt m p t) (regionsOf m p)
   slot-in t h =
       let size = o .sizes .regions in
-      let few = part-length 64 p (m .regions) (omega arith) in
-      subst (λ (r : Region). In r (regionsOf m p)) (part-row 64 p t (m .regions) noRegion h) (in-at noRegion (regionsOf m p) t (omega arith))
+      let few = part-length (m .regions) 64 p (omega arith) in
+      subst (λ (r : Region). In r (regionsOf m p)) (part-at (m .regions) 64 p t noRegion h) (in-at noRegion (regionsOf m p) t (omega arith))
 
   -- a start with nothing in its way is apart from every region
   pub clear-apart : (start size : ℕ) → 1 ≤ size → Clear m p start (roundUp size) → (t : ℕ) → t < 64 → Used (regionAt m p t)
@@ -170,9 +170,9 @@ module _ (d : ℕ → ℕ) (m : Machine) (o : Owing d m) (p : ℕ) (low : p < 8)
       let k = segment-region s (regionsOf m p) i in
       let r = in-row noRegion (k .0) (regionsOf m p) (k .1 .0) in
       let size = o .sizes .regions in
-      let few = part-length 64 p (m .regions) (omega arith) in
+      let few = part-length (m .regions) 64 p (omega arith) in
       let inside = r .inside in
-      let same : rowOf' (r .row) ≡ k .0 = sym (part-row 64 p (r .row) (m .regions) noRegion (omega arith)) ∙ r .is in
+      let same : rowOf' (r .row) ≡ k .0 = sym (part-at (m .regions) 64 p (r .row) noRegion (omega arith)) ∙ r .is in
       let limits = o .regions (rowOf p (r .row)) .used (subst (λ (y : Region). Used y) (sym same) (k .1 .1 .0)) in
       let a = eqb-true (k .0 .start .0 % 4096) 0 (subst (λ (y : Region). aligned (y .start .0) ≡ true) same (limits .alignedStart)) in
       let b = ap (λ (y : Segment). (startOf y + y .len) % 4096) (k .1 .1 .1) in

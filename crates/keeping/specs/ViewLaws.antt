@@ -11,19 +11,19 @@ use borrow.Author.Tests.{eqb-true, eqb-false, eq-eqb, ne-eqb, not-true}
 use Rattle.model.specs.declared.Entry.{Entry}
 use Rattle.model.specs.declared.Region.{Region}
 use Rattle.model.specs.declared.Found.the-variants.{At}
-use Rattle.laws.specs.Lists.{keep}
+use Rattle.laws.specs.Lists.{keep, count}
 use Rattle.model.specs.Machine.{Machine, regionAt, orderOf, noEntry, noRegion}
-use Rattle.model.specs.Lookup.{contains, isUsed, isRanged, count}
+use Rattle.model.specs.Lookup.{contains, isUsed, isRanged}
 use Rattle.model.specs.Backing.{backingAt}
 use Rattle.model.specs.Sound.{Hold, holds, entryHolds, rangeHolds, homes, only, holdersOf, RegionFits, EntryFits}
-use Rattle.model.specs.LookupLaws.{never-found, same-slot, both-true}
-use Rattle.keeping.specs.Bools.{not-of}
-use Rattle.keeping.specs.In.{In, Once}
-use Rattle.keeping.specs.InLaws.{in-at, in-row, in-left, in-right, in-either, in-map, map-in}
-use Rattle.keeping.specs.ListsLaws.{in-keep, keep-in, keep-none}
-use Rattle.keeping.specs.Owing.{EntryHolds, RangeHolds, Holds, entryHold, rangeHold, rowAt, entryAt, Agree}
+use Rattle.model.specs.LookupLaws.{never-found, same-slot}
+use Rattle.laws.specs.BoolLaws.{both-true, not-of}
+use Rattle.laws.specs.In.{In, Once}
+use Rattle.laws.specs.InLaws.{in-at, in-row, in-left, in-right, in-either, in-map, map-in}
+use Rattle.laws.specs.InListsLaws.{in-keep, keep-in, keep-none}
+use Rattle.keeping.specs.Owing.{EntryHolds, RangeHolds, Holds, rowAt, entryAt, Agree}
+use Rattle.model.specs.HolderLaws.{entryHold, rangeHold, entryTaken, rangeTaken}
 use Rattle.keeping.specs.OwingLaws.{taken-there, used-there}
-use Rattle.keeping.specs.HolderCounts.{entryTaken, rangeTaken}
 
 -- ---- the one of a list
 

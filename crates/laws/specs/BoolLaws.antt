@@ -1,7 +1,13 @@
--- Laws of booleans: conjunctions and disjunctions that are true or false, and in another order.
+-- Laws of tests put together: what the value of the whole says of the parts.
 use mathlib.Core.Path.{_≡_, refl}
-use mathlib.Core.Logic.{_⊎_, inl, inr}
-use mathlib.Core.Bool.{Bool, true, false, _&&_, _||_, true≢false, false≢true}
+use mathlib.Core.Logic.{_≢_, _⊎_, inl, inr}
+use mathlib.Core.Bool.{Bool, true, false, _||_, not, true≢false, _&&_, false≢true}
+use Prim.Native.Nat.{ℕ}
+use lib.Dec.{eqb}
+use borrow.Author.Tests.{ne-eqb}
+
+pub not-of : (n : ℕ) → n ≢ 0 → not (eqb n 0) ≡ true
+not-of n h = rw (ne-eqb n 0 h) refl
 
 -- a test is not true and false
 pub clash : {A : Type 0} {b : Bool} → b ≡ true → b ≡ false → A

@@ -1,14 +1,34 @@
--- Laws of `Lists.count`: of lists put together, at most all, at least one, and of two tests.
-use mathlib.Core.Path.{_≡_, refl, subst}
-use mathlib.Core.Bool.{Bool, true, false, _||_, cond, false≢true}
+-- Laws of `count`: two lists one after the other, one row replaced, more or fewer that pass.
+use mathlib.Core.Path.{_≡_, refl, ap, subst}
+use mathlib.Core.Bool.{Bool, true, false, cond, _||_, false≢true}
 use mathlib.Core.List.{List, [], _∷_, _++_}
-use Prim.Native.Nat.{ℕ, suc, _+_, _≤_, _<_, zero-le}
+use Prim.Native.Nat.{ℕ, zero, suc, _+_, _≤_, _<_, zero-le}
+use native.Mathlib.Nat.{le-of-suc-le-suc, not-suc-le-zero}
 use native.Mathlib.Omega.{arith}
-use lib.ListN.{length}
+use lib.ListN.{length, getD, set}
+use Rattle.laws.specs.Lists.{count, any, among}
 use lib.Dec.{eqb}
 use borrow.Author.Tests.{eqb-true}
-use Rattle.laws.specs.Lists.{any, among, count}
 use Rattle.laws.specs.BoolLaws.{clash}
+
+-- a row that passed is one that does not
+pub count-put : {A : Type 0} (f : A → Bool) (d : A) (l : List A) (i : ℕ) (x : A) → i < length l → f (getD l i d) ≡ true → f x ≡ false
+    → count f (set l i x) + 1 ≡ count f l
+unfolding count
+count-put f d [] i x h p q = absurd (not-suc-le-zero h)
+count-put f d (y ∷ l) zero x h p q = rw (p, q) refl
+count-put f d (y ∷ l) (suc i) x h p q = go (f y) (count-put f d l i x (le-of-suc-le-suc h) p q)
+  where
+    go : (b : Bool) → count f (set l i x) + 1 ≡ count f l → cond b (count f (set l i x) + 1) (count f (set l i x)) + 1 ≡ cond b (count f l + 1) (count f l)
+    go true e = ap (λ (n : ℕ). n + 1) e
+    go false e = e
+
+-- a row as good as the one before
+pub count-still : {A : Type 0} (f : A → Bool) (d : A) (l : List A) (i : ℕ) (x : A) → f x ≡ f (getD l i d) → count f (set l i x) ≡ count f l
+unfolding count
+count-still f d [] i x e = refl
+count-still f d (y ∷ l) zero x e = ap (λ (b : Bool). cond b (count f l + 1) (count f l)) e
+count-still f d (y ∷ l) (suc i) x e = ap (λ (n : ℕ). cond (f y) (n + 1) n) (count-still f d l i x e)
 
 pub count-append : {A : Type 0} (p : A → Bool) (l k : List A) → count p (l ++ k) ≡ count p l + count p k
 unfolding count

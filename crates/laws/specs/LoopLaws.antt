@@ -1,4 +1,4 @@
--- The loop law: what is left to look at gives the answer. Stated once, over any list and any function of it; then for four such functions.
+-- The loop law, once for all loops: at the first row, where the answer is found, one row on, and past the last.
 use mathlib.Core.Path.{_≡_, refl, ap, sym, _∙_}
 use mathlib.Core.Bool.{Bool, true, false, _&&_, _||_, cond}
 use mathlib.Core.List.{List, [], _∷_}
@@ -9,10 +9,7 @@ use lib.ListN.{length, getD, drop, drop-of-length-le}
 use lib.Seq.{drop-cons}
 use Rattle.laws.specs.Tests.{allRows}
 use Rattle.laws.specs.Lists.{all, any, count}
-
--- a loop that has passed i rows of a list: what F says of the rest is the answer x
-abbrev pub Remains : {A X : Type 0} → (List A → X) → List A → ℕ → X → Type 0
-Remains F l i x = x ≡ F (drop i l)
+use Rattle.laws.specs.Loops.{Remains, Every, Rest, Sought, Counted}
 
 pub loop-first : {A X : Type 0} (F : List A → X) (l : List A) → Remains F l 0 (F l)
 loop-first F l = refl
@@ -32,11 +29,6 @@ module _ {A X : Type 0} (F : List A → X) (l : List A) (i : ℕ) (x : X) (s : R
   -- all are passed
   pub loop-none : length l ≤ i → F [] ≡ x
   loop-none h = sym (s ∙ ap F (drop-of-length-le l {i = i} h))
-
--- ---- every row, with its number
-
-abbrev pub Every : {A : Type 0} → (ℕ → A → Bool) → List A → ℕ → ℕ → Type 0
-Every f l n i = (i ≤ n) × Remains (allRows f i) l i (allRows f 0 l)
 
 module _ {A : Type 0} (f : ℕ → A → Bool) (l : List A) (n : ℕ) (sized : length l ≡ n) where
   pub every-first : Every f l n 0
@@ -60,11 +52,6 @@ module _ {A : Type 0} (f : ℕ → A → Bool) (l : List A) (n : ℕ) (sized : l
   unfolding allRows
   every-all i s h = loop-none (allRows f i) l i (allRows f 0 l) (s .1) (rw sized h)
 
--- ---- every row from k on
-
-abbrev pub Rest : {A : Type 0} → (A → Bool) → List A → ℕ → ℕ → ℕ → Type 0
-Rest f l n k i = (i ≤ n) × Remains (all f) l i (all f (drop k l))
-
 module _ {A : Type 0} (f : A → Bool) (l : List A) (n : ℕ) (sized : length l ≡ n) (k i : ℕ) (s : Rest f l n k i) where
   pub rest-fails : i < n → (d a : A) → a ≡ getD l i d → f a ≡ false → false ≡ all f (drop k l)
   unfolding all
@@ -77,11 +64,6 @@ module _ {A : Type 0} (f : A → Bool) (l : List A) (n : ℕ) (sized : length l 
   pub rest-all : n ≤ i → true ≡ all f (drop k l)
   unfolding all
   rest-all h = loop-none (all f) l i (all f (drop k l)) (s .1) (rw sized h)
-
--- ---- some row
-
-abbrev pub Sought : {A : Type 0} → (A → Bool) → List A → ℕ → ℕ → Type 0
-Sought f l n i = (i ≤ n) × Remains (any f) l i (any f l)
 
 module _ {A : Type 0} (f : A → Bool) (l : List A) (n : ℕ) (sized : length l ≡ n) (i : ℕ) (s : Sought f l n i) where
   -- the row at i passes the test: some row does
@@ -96,11 +78,6 @@ module _ {A : Type 0} (f : A → Bool) (l : List A) (n : ℕ) (sized : length l 
   pub sought-none : n ≤ i → false ≡ any f l
   unfolding any
   sought-none h = loop-none (any f) l i (any f l) (s .1) (rw sized h)
-
--- ---- how many rows: k of the first i
-
-abbrev pub Counted : {A : Type 0} → (A → Bool) → List A → ℕ → ℕ → ℕ → Type 0
-Counted f l n i k = (i ≤ n) × ((k ≤ i) × Remains (λ t. k + count f t) l i (count f l))
 
 -- a row counts 1 or 0
 one-more : (b : Bool) (k r : ℕ) → k + cond b (r + 1) r ≡ k + cond b 1 0 + r

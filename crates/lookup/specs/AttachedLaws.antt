@@ -12,7 +12,8 @@ use Rattle.model.specs.declared.Process.{Process}
 use Rattle.model.specs.declared.Region.{Region}
 use Rattle.model.specs.declared.Found.{Found}
 use Rattle.model.specs.declared.Found.the-variants.{At, Nothing}
-use Rattle.laws.specs.LoopLaws.{Remains, loop-found, loop-more, loop-none}
+use Rattle.laws.specs.Loops.{Remains}
+use Rattle.laws.specs.LoopLaws.{loop-found, loop-more, loop-none}
 use Rattle.laws.specs.Lists.{part}
 use Rattle.model.specs.Layout.{machine}
 use Rattle.model.specs.Machine.{Machine, noProcess, noRegion, regionAt, orderOf}

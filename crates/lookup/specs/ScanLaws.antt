@@ -5,7 +5,8 @@ use mathlib.Core.List.{List}
 use Prim.Native.Nat.{ℕ, _+_, _≤_, _<_}
 use native.Mathlib.Omega.{arith}
 use lib.ListN.{length, getD}
-use Rattle.laws.specs.LoopLaws.{Remains, loop-found, loop-more, loop-none}
+use Rattle.laws.specs.Loops.{Remains}
+use Rattle.laws.specs.LoopLaws.{loop-found, loop-more, loop-none}
 use Rattle.model.specs.declared.Found.{Found}
 use Rattle.model.specs.declared.Found.the-variants.{At, Nothing}
 use Rattle.model.specs.Lookup.{firstRow}

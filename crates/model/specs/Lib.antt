@@ -33,13 +33,14 @@ pub mod PointRows
 pub mod RangeRows
 pub mod Points
 -- laws
+pub mod HolderLaws
+pub mod FoundRowLaws
 pub mod SoundLaws
 pub mod RecordLaws
 pub mod RefusalLaws
 pub mod EmptyLaws
 pub mod SettledLaws
 pub mod LookupLaws
-pub mod FoundRowLaws
 pub mod MachineLaws
 pub mod MappedBelowLaws
 pub mod VisitLaws

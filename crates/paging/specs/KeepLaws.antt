@@ -19,7 +19,7 @@ use Rattle.model.specs.Paging.{mapsIn, unmapFrom}
 use Rattle.paging.specs.ProcessRowsLaws.{mapped-most}
 use Rattle.paging.specs.Order.{Rising}
 use Rattle.paging.specs.OrderLaws.{From, rising-rest, rising-from, from-rest}
-use Rattle.paging.specs.MapperLaws.{WellPaged}
+use Rattle.paging.specs.WellPaged.{WellPaged}
 
 -- ---- page order
 

@@ -13,7 +13,9 @@ pub mod MapperStepLaws
 pub mod Order
 pub mod OrderLaws
 pub mod PadLaws
+pub mod WellPaged
 pub mod MapperLaws
 pub mod KeepLaws
 -- the meaning of a page table, of any form
+pub mod PageMapLaws
 pub mod PageMap

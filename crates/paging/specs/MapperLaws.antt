@@ -15,7 +15,7 @@ use Rattle.model.specs.declared.Found.the-variants.{At, Nothing}
 use Rattle.model.specs.declared.Translated.the-variants.{NotMapped}
 use Rattle.laws.specs.Lists.{part, pad}
 use Rattle.model.specs.Machine.{Machine, State, processAt, mappedOf, withMapped, mappedCount, noProcess, noMapping}
-use Rattle.model.specs.Sound.{Sound, Paged}
+use Rattle.model.specs.Sound.{Sound}
 use Rattle.model.specs.Paging.{translate, mapPage, unmapPage, unmapFrom}
 use Rattle.model.specs.MappedBelowLaws.{below, below-most}
 use Rattle.laws.specs.ListsLaws.{pad-take}
@@ -24,16 +24,10 @@ use Rattle.paging.specs.PlaceLaws.{row-inside}
 use Rattle.paging.specs.ProcessRows.{rowsOf, withRows, withCount, rowPut, rowsTaken}
 use Rattle.paging.specs.ProcessRowsLaws.{rows-of-length, mapped-row, mapped-most, rows-put-same}
 use Rattle.paging.specs.PadLaws.{put-in-pad, take-out-of-pad, set-in-pad}
-use Rattle.paging.specs.Order.{Rising}
-use Rattle.paging.specs.OrderLaws.{place-below, translate-by, stands-mapped, map-below, remapPage, remap-at, remap-missing, unmap-at, unmap-missing, below-mono, first-end, keep-region}
+use Rattle.paging.specs.Order.{Rising, remapPage}
+use Rattle.paging.specs.OrderLaws.{place-below, translate-by, stands-mapped, map-below, remap-at, remap-missing, unmap-at, unmap-missing, below-mono, first-end, keep-region}
 use Rattle.paging.specs.Mapper.{mappedPages, inserted, takenOut, mapBy, unmapRow, unmapBy, reflag, remapRow, remapBy, firstPage, endPage, takenIf, unmapFromBy}
-
--- at most 128 pages are mapped, in page order, and the rows past them are free
-pub record WellPaged (m : Machine) (p : ℕ) : Type 0 where
-  pub process : p < 8
-  pub table : length (m .mapped) ≡ 1024
-  pub few : processAt m p .mapped ≤ 128
-  pub paged : Paged m p (processAt m p)
+use Rattle.paging.specs.WellPaged.{WellPaged}
 
 -- every process of a sound machine has such a page table
 pub well-paged : (s : State) (p : ℕ) → Sound s → p < 8 → WellPaged (s .machine) p

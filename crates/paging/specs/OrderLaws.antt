@@ -24,7 +24,7 @@ use Rattle.model.specs.MappedBelowLaws.{below, below-most}
 use Rattle.paging.specs.Place.{pageAt, middle, halve, place, standsAt, rowFor, mappedAt, translateBy}
 use Rattle.paging.specs.Mapper.{firstPage, endPage}
 use Rattle.paging.specs.PlaceLaws.{middle-from, middle-under, halve-empty, halve-up, halve-down}
-use Rattle.paging.specs.Order.{Rising}
+use Rattle.paging.specs.Order.{Rising, remapPage}
 
 -- no page below n
 abbrev pub From : ℕ → List Mapping → Type 0
@@ -210,12 +210,6 @@ keep-below a e h (x ∷ l) r = go (leb a (x .page .0)) refl (ltb (x .page .0) e)
         let v = ltb-false (x .page .0) e q in
         ap (λ t. x ∷ t) (ih ∙ ap (λ (i : ℕ). take i l ++ drop (below e l) l) (below-tail a x l r (omega arith)) ∙ ap (λ (j : ℕ). drop j l) (below-tail e x l r (omega arith)))
         ∙ sym (ap (λ (i : ℕ). Cut i (below e (x ∷ l))) (below-first a x l r u) ∙ ap (λ (j : ℕ). Cut 0 j) (below-first e x l r v))
-
--- ---- remap
-
--- a page's flags replaced
-abbrev pub remapPage : List Mapping → ℕ → ℕ → List Mapping
-remapPage l page flags = remapWhere (λ y. eqb (y .page .0) page) (λ y. flags) l
 
 -- no page of the list is the one
 remap-none : (page flags : ℕ) (l : List Mapping) → ((i : ℕ) → i < length l → pageAt l i ≡ page → ⊥) → remapPage l page flags ≡ l

@@ -11,7 +11,8 @@ use Rattle.model.specs.Layout.{machine}
 use Rattle.model.specs.Lookup.{isPinned, regionsOf}
 use Rattle.model.specs.Remove.{pinStands}
 use Rattle.lookup.specs.LookupsLaws.{slots-length, slot-at}
-use Rattle.laws.specs.LoopLaws.{Sought, sought-found, sought-more, sought-none}
+use Rattle.laws.specs.Loops.{Sought}
+use Rattle.laws.specs.LoopLaws.{sought-found, sought-more, sought-none}
 
 -- none of the first i is pinned
 abbrev pub Unpinned : List ℕ → ℕ → ℕ → Type 0

@@ -1,9 +1,9 @@
--- A machine whose holders are accounted for: every backing that is held is in use, with a holder for each hold. A hold given up keeps it so.
+-- Laws of `Accounted`: a sound machine is, and a hold given up keeps it so.
 use mathlib.Core.Path.{_≡_, refl, ap, sym, subst, _∙_}
 use mathlib.Core.Logic.{_≢_}
-use mathlib.Core.Bool.{Bool, true, false, _&&_, not, cond, false≢true}
-use mathlib.Core.List.{List, map}
-use Prim.Native.Nat.{ℕ, _+_, _-_, _/_, _≤_, _<_}
+use mathlib.Core.Bool.{Bool, true, false, cond, false≢true}
+use mathlib.Core.List.{List}
+use Prim.Native.Nat.{ℕ, _+_, _-_, _≤_, _<_}
 use native.Mathlib.Omega.{arith}
 use native.Mathlib.Decide.{ℕ-discrete}
 use lib.ListN.{length, getD, set, List·getD-eq-default}
@@ -12,50 +12,18 @@ use lib.Dec.{eqb, ltb, leb}
 use borrow.Author.Tests.{ltb-true, ltb-false, leb-true, leb-false, eqb-true, eqb-false, eq-eqb, ne-eqb, lt-leb, not-true, not-false}
 use Rattle.laws.specs.BoolLaws.{both-true}
 use Rattle.model.specs.declared.Backing.{Backing}
-use Rattle.model.specs.declared.Entry.{Entry}
 use Rattle.model.specs.declared.Pool.{Pool}
 use Rattle.model.specs.declared.Region.{Region}
-use Rattle.laws.specs.Lists.{keep, count}
+use Rattle.laws.specs.Lists.{count}
 use Rattle.model.specs.Machine.{Machine, State, noBacking, noEntry, noRegion}
-use Rattle.model.specs.Lookup.{isUsed, isRanged, isShared}
-use Rattle.model.specs.Create.{one}
+use Rattle.model.specs.Lookup.{isUsed, isRanged}
 use Rattle.model.specs.Backing.{backingAt, withBackings, letGo}
-use Rattle.model.specs.Sound.{Sound, R2, Hold, entryHolds, rangeHolds, holds, holdersOf}
-use Rattle.laws.specs.CountLaws.{count-append}
-use Rattle.backing.specs.BackingLaws.{Ready, sound-ready, used-low}
-use Rattle.remove.specs.HoldingLaws.{oneIf, holding, Holder, holding-some}
-
--- whether an entry, a region holds a backing, and how
-abbrev pub entryTaken : Entry → Bool
-entryTaken e = not (eqb (e .owner) 0)
-
-abbrev pub entryHold : Entry → Hold
-entryHold e = record { frame = e .frame .0; page = e .page .0; shared = 0 }
-
-abbrev pub rangeTaken : Region → Bool
-rangeTaken r = isUsed r && isRanged r
-
-abbrev pub rangeHold : Region → Hold
-rangeHold r = record { frame = r .range .0; page = r .start .0 / 4096; shared = one (isShared r) }
-
-abbrev pub entriesHold : List Entry → ℕ → ℕ
-entriesHold l f = holding entryTaken entryHold f l
-
-abbrev pub rangesHold : List Region → ℕ → ℕ
-rangesHold l f = holding rangeTaken rangeHold f l
-
-pub holders-split : (m : Machine) (f : ℕ) → holdersOf m f ≡ entriesHold (m .entries) f + rangesHold (m .regions) f
-unfolding holdersOf holds entryHolds rangeHolds
-holders-split m f = count-append (λ h. eqb (h .frame) f) (map entryHold (keep entryTaken (m .entries))) (map rangeHold (keep rangeTaken (m .regions)))
-
--- a free slot has no range
-abbrev pub FreeUnranged : List Region → Type 0
-FreeUnranged l = (i : ℕ) → isRanged (getD l i noRegion) ≡ true → isUsed (getD l i noRegion) ≡ true
-
-pub record Accounted (m : Machine) : Type 0 where
-  pub ready : Ready m
-  pub held : (f : ℕ) → 1 ≤ holdersOf m f → (backingAt m f .len ≢ 0) × (holdersOf m f ≤ backingAt m f .holders)
-  pub slots : FreeUnranged (m .regions)
+use Rattle.model.specs.Sound.{Sound, R2, holds, holdersOf}
+use Rattle.backing.specs.Ready.{Ready}
+use Rattle.backing.specs.BackingLaws.{sound-ready, used-low}
+use Rattle.model.specs.HolderLaws.{oneIf, entryTaken, entryHold, rangeTaken, rangeHold, entriesHold, rangesHold, holders-split}
+use Rattle.remove.specs.HoldingLaws.{Holder, holding-some}
+use Rattle.remove.specs.Accounted.{FreeUnranged, Accounted}
 
 -- ---- the tables that holders and pool are read from
 

@@ -11,8 +11,8 @@ use Rattle.laws.specs.Lists.{each}
 use Rattle.model.specs.Machine.{Machine, noEntry, withEntries}
 use Rattle.model.specs.Backing.{backingAt, letGo}
 use Rattle.model.specs.Remove.{framesOf}
-use Rattle.backing.specs.BackingLaws.{Ready}
-use Rattle.remove.specs.AccountedLaws.{Accounted}
+use Rattle.backing.specs.Ready.{Ready}
+use Rattle.remove.specs.Accounted.{Accounted}
 
 -- ---- one holder less, and what it leaves alone
 

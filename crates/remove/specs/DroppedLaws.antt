@@ -22,8 +22,10 @@ use Rattle.model.specs.Layout.{machine}
 use Rattle.backing.specs.BackingLaws.{release-is, release-ready, used-low}
 use Rattle.backing.specs.BackingSteps.{released}
 use Rattle.lookup.specs.LookupsLaws.{entries-length}
-use Rattle.remove.specs.HoldingLaws.{oneIf, weight, holding-set}
-use Rattle.remove.specs.AccountedLaws.{FreeUnranged, Accounted, ready-same, entryTaken, entryHold, rangesHold, holders-split, let-go-is, given-used, given-held}
+use Rattle.model.specs.HolderLaws.{oneIf, weight, entryTaken, entryHold, rangesHold, holders-split}
+use Rattle.remove.specs.HoldingLaws.{holding-set}
+use Rattle.remove.specs.Accounted.{FreeUnranged, Accounted}
+use Rattle.remove.specs.AccountedLaws.{ready-same, let-go-is, given-used, given-held}
 use Rattle.remove.specs.Dropped.{LetsGo, allGone, ownedBy, freed, entriesDropped, entryDropped, entryLeft, EntryGone, EntriesGone}
 
 pub lets-go : (m : Machine) (f : ℕ) (n : Machine) → n ≡ released m f → LetsGo m f n

@@ -1,7 +1,7 @@
--- Holders counted over the rows of a table, and counted again once a row is free.
+-- Holders counted again once a row is free, and a row that holds where there is a holder.
 use mathlib.Core.Path.{_≡_, refl, ap}
 use mathlib.Core.Bool.{Bool, true, false, cond}
-use mathlib.Core.List.{List, [], _∷_, map}
+use mathlib.Core.List.{List, [], _∷_}
 use Prim.Native.Nat.{ℕ, zero, suc, _+_, _≤_, _<_, zero-le, suc-le-suc}
 use native.Mathlib.Nat.{le-of-suc-le-suc, not-suc-le-zero}
 use native.Mathlib.Omega.{arith}
@@ -10,44 +10,22 @@ use lib.Dec.{eqb}
 use borrow.Author.Tests.{eqb-true}
 use Rattle.laws.specs.Lists.{keep, count}
 use Rattle.model.specs.Sound.{Hold}
-
-abbrev pub oneIf : Bool → ℕ
-oneIf b = cond b 1 0
+use Rattle.model.specs.HolderLaws.{oneIf, holding, weight, holding-cons}
 
 -- rows that hold where u says so, each as g says; d is a free row
 module _ {A : Type 0} (u : A → Bool) (g : A → Hold) (f : ℕ) where
-  -- how many rows hold the backing at f
-  abbrev pub holding : List A → ℕ
-  holding l = count (λ h. eqb (h .frame) f) (map g (keep u l))
-
-  -- what a row adds
-  abbrev pub weight : A → ℕ
-  weight x = cond (u x) (oneIf (eqb (g x .frame) f)) 0
-
-  holding-cons : (x : A) (l : List A) → holding (x ∷ l) ≡ weight x + holding l
-  unfolding count keep
-  holding-cons x l = go (u x)
-    where
-      counted : (b : Bool) → cond b (holding l + 1) (holding l) ≡ oneIf b + holding l
-      counted true = omega arith
-      counted false = omega arith
-
-      go : (b : Bool) → count (λ h. eqb (h .frame) f) (map g (cond b (x ∷ keep u l) (keep u l))) ≡ cond b (oneIf (eqb (g x .frame) f)) 0 + holding l
-      go true = counted (eqb (g x .frame) f)
-      go false = omega arith
-
   module _ (d : A) (none : u d ≡ false) where
     -- a row set free adds nothing any more
-    pub holding-set : (l : List A) (i : ℕ) → i < length l → holding l ≡ holding (set l i d) + weight (getD l i d)
+    pub holding-set : (l : List A) (i : ℕ) → i < length l → holding u g f l ≡ holding u g f (set l i d) + weight u g f (getD l i d)
     holding-set [] i h = absurd (not-suc-le-zero h)
     holding-set (x ∷ l) zero h =
-        let was = holding-cons x l in
-        let is = holding-cons d l in
-        let light : weight d ≡ 0 = ap (λ (b : Bool). cond b (oneIf (eqb (g d .frame) f)) 0) none in
+        let was = holding-cons u g f x l in
+        let is = holding-cons u g f d l in
+        let light : weight u g f d ≡ 0 = ap (λ (b : Bool). cond b (oneIf (eqb (g d .frame) f)) 0) none in
         omega arith
     holding-set (x ∷ l) (suc i) h =
-        let was = holding-cons x l in
-        let is = holding-cons x (set l i d) in
+        let was = holding-cons u g f x l in
+        let is = holding-cons u g f x (set l i d) in
         let rest = holding-set l i (le-of-suc-le-suc h) in
         omega arith
 
@@ -58,7 +36,7 @@ module _ {A : Type 0} (u : A → Bool) (g : A → Hold) (f : ℕ) where
       pub holds : u (getD l row d) ≡ true
       pub frame : g (getD l row d) .frame ≡ f
 
-    pub holding-some : (l : List A) → 1 ≤ holding l → Holder l
+    pub holding-some : (l : List A) → 1 ≤ holding u g f l → Holder l
     unfolding count keep
     holding-some [] h = absurd (not-suc-le-zero h)
     holding-some (x ∷ l) h = go (u x) refl (eqb (g x .frame) f) refl (holding-some l)
@@ -66,10 +44,10 @@ module _ {A : Type 0} (u : A → Bool) (g : A → Hold) (f : ℕ) where
         later : Holder l → Holder (x ∷ l)
         later k = record { row = suc (k .row); inside = suc-le-suc (k .inside); holds = k .holds; frame = k .frame }
 
-        fewer : weight x ≡ 0 → 1 ≤ holding l
-        fewer z = let was = holding-cons x l in omega arith
+        fewer : weight u g f x ≡ 0 → 1 ≤ holding u g f l
+        fewer z = let was = holding-cons u g f x l in omega arith
 
-        go : (a : Bool) → u x ≡ a → (b : Bool) → eqb (g x .frame) f ≡ b → (1 ≤ holding l → Holder l) → Holder (x ∷ l)
+        go : (a : Bool) → u x ≡ a → (b : Bool) → eqb (g x .frame) f ≡ b → (1 ≤ holding u g f l → Holder l) → Holder (x ∷ l)
         go true p true q more = record { row = 0; inside = suc-le-suc zero-le; holds = p; frame = eqb-true (g x .frame) f q }
         go true p false q more = later (more (fewer (λ t. cond (p t) (oneIf (q t)) 0)))
         go false p b q more = later (more (fewer (ap (λ (c : Bool). cond c (oneIf (eqb (g x .frame) f)) 0) p)))

@@ -1,5 +1,6 @@
 -- What the crate is stated and proved by: holders counted over the tables, a region dropped and removed, a process's regions cleared.
 pub mod HoldingLaws
+pub mod Accounted
 pub mod AccountedLaws
 pub mod Dropped
 pub mod DroppedLaws

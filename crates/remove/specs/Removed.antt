@@ -3,8 +3,8 @@ use mathlib.Core.Path.{_≡_}
 use Prim.Native.Nat.{ℕ}
 use Rattle.model.specs.Machine.{Machine}
 use Rattle.model.specs.Remove.{removeRegion}
-use Rattle.paging.specs.MapperLaws.{WellPaged}
-use Rattle.remove.specs.AccountedLaws.{Accounted}
+use Rattle.paging.specs.WellPaged.{WellPaged}
+use Rattle.remove.specs.Accounted.{Accounted}
 
 -- a machine of which a process's regions can be removed: holders are accounted for, and its page table is well formed
 pub record Removable (m : Machine) (p : ℕ) : Type 0 where

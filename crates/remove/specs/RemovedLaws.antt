@@ -20,7 +20,8 @@ use Rattle.model.specs.Remove.{framesOf, dropRegion, removeRegion}
 use Rattle.model.specs.MachineLaws.{books-let-go, order-mapped, order-put}
 use Rattle.paging.specs.Mapper.{unmapFromBy}
 use Rattle.paging.specs.Order.{Rising}
-use Rattle.paging.specs.MapperLaws.{WellPaged, well-paged, unmap-from-law}
+use Rattle.paging.specs.WellPaged.{WellPaged}
+use Rattle.paging.specs.MapperLaws.{well-paged, unmap-from-law}
 use Rattle.paging.specs.KeepLaws.{unmap-from-keeps}
 use Rattle.regions.specs.Detached.{other}
 use Rattle.remove.specs.AccountedLaws.{accounted-same, sound-accounted}

@@ -9,8 +9,8 @@ use Rattle.model.specs.Machine.{Machine, noRegion, withRegions}
 use Rattle.model.specs.Lookup.{isRanged}
 use Rattle.model.specs.Backing.{backingAt, letGo}
 use Rattle.model.specs.Remove.{dropRegion}
-use Rattle.backing.specs.BackingLaws.{Ready}
-use Rattle.remove.specs.AccountedLaws.{Accounted}
+use Rattle.backing.specs.Ready.{Ready}
+use Rattle.remove.specs.Accounted.{Accounted}
 
 -- ---- the range, if any
 

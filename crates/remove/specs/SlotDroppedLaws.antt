@@ -19,8 +19,10 @@ use Rattle.model.specs.Sound.{holdersOf}
 use Rattle.model.specs.Remove.{framesOf, dropRegion}
 use Rattle.model.specs.MachineLaws.{books-let-go}
 use Rattle.backing.specs.BackingLaws.{release-ready}
-use Rattle.remove.specs.HoldingLaws.{oneIf, weight, holding-set}
-use Rattle.remove.specs.AccountedLaws.{FreeUnranged, Accounted, ready-same, rangeTaken, rangeHold, entriesHold, rangesHold, holders-split, given-used, given-held}
+use Rattle.model.specs.HolderLaws.{oneIf, weight, rangeTaken, rangeHold, entriesHold, rangesHold, holders-split}
+use Rattle.remove.specs.HoldingLaws.{holding-set}
+use Rattle.remove.specs.Accounted.{FreeUnranged, Accounted}
+use Rattle.remove.specs.AccountedLaws.{ready-same, given-used, given-held}
 use Rattle.remove.specs.Dropped.{LetsGo, allGone, freed, entriesDropped, EntriesGone}
 use Rattle.remove.specs.DroppedLaws.{let-go-entries, let-go-kept, gone-books}
 use Rattle.remove.specs.SlotDropped.{rangeGone, RangeGone, slotDropped, SlotGone, Dropped}

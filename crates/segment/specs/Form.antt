@@ -1,12 +1,14 @@
 -- A segment by itself: its form, its place in list order, and what it overlaps.
-use mathlib.Core.Bool.{Bool, not, _&&_, _||_, cond}
-use Prim.Native.Nat.{ℕ, _+_, _-_, _^_}
+use mathlib.Core.Bool.{Bool, not, _&&_, _||_, cond, true, false}
+use Prim.Native.Nat.{ℕ, _+_, _-_, _^_, _≤_, _<_}
 use lib.Dec.{eqb, ltb, leb}
 use Rattle.answers.specs.declared.Refusal.the-variants.{BadAddress, BadRange}
 use Rattle.address.specs.Canonical.{canonical}
 use Rattle.segment.specs.declared.Segment.{Segment}
 use Rattle.segment.specs.declared.Answered.{Answered}
 use Rattle.segment.specs.declared.Answered.the-variants.{Done, Refused}
+use mathlib.Core.Path.{_≡_}
+use mathlib.Core.Logic.{_⊎_}
 
 abbrev pub startOf : Segment → ℕ
 startOf s = s .start .0
@@ -37,3 +39,21 @@ beforeb a b = ltb (startOf a) (startOf b) || (eqb (startOf a) (startOf b) && ltb
 -- a byte from `first` to `last` is the segment's; "Empty segments never overlap" (the Rust's find_overlapping_at)
 abbrev pub overb : Segment → ℕ → ℕ → Bool
 overb s first last = not (emptyb s) && (leb first (lastOf s) && leb (startOf s) last)
+
+-- whether an answer is no refusal
+abbrev pub done : Answered → Bool
+done Done = true
+done (Refused r) = false
+
+-- the same three as propositions
+pub record Same (a b : Segment) : Type 0 where
+  pub starts : startOf a ≡ startOf b
+  pub lens : a .len ≡ b .len
+
+abbrev pub Before : Segment → Segment → Type 0
+Before a b = (startOf a < startOf b) ⊎ ((startOf a ≡ startOf b) × (a .len < b .len))
+
+pub record Over (s : Segment) (first last : ℕ) : Type 0 where
+  pub some : s .len ≡ 0 → ⊥
+  pub reaches : first ≤ lastOf s
+  pub begins : startOf s ≤ last

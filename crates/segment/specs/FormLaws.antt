@@ -1,38 +1,18 @@
 -- Laws of `Form`: a segment by itself: its form, its place in list order, and what it overlaps.
 use mathlib.Core.Path.{_≡_, refl, ap, sym, _∙_}
-use mathlib.Core.Logic.{_⊎_}
 use mathlib.Core.Bool.{Bool, true, false, cond}
 use Prim.Native.Nat.{ℕ, _-_, _^_, _≤_, _<_}
 use lib.Dec.{eqb, ltb, leb}
 use Rattle.answers.specs.declared.Refusal.the-variants.{BadAddress, BadRange}
 use Rattle.address.specs.Canonical.{canonical}
 use Rattle.segment.specs.declared.Segment.{Segment}
-use Rattle.segment.specs.declared.Answered.{Answered}
 use Rattle.segment.specs.declared.Answered.the-variants.{Done, Refused}
-use Rattle.segment.specs.Form.{startOf, lastOf, inHalf, formOf, sameb, beforeb, overb}
+use Rattle.segment.specs.Form.{startOf, lastOf, inHalf, formOf, sameb, beforeb, overb, done, Same, Before, Over}
 use native.Mathlib.Omega.{arith}
 use borrow.Author.Tests.{eqb-true, eqb-false, ltb-true, ltb-false, eq-eqb, ne-eqb, lt-ltb, le-ltb}
 use Rattle.laws.specs.Tells.{Tells}
 use Rattle.laws.specs.TellsLaws.{told, not-told, tells-same, tells-both}
 use Rattle.laws.specs.TestLaws.{tells-eq, tells-lt, tells-le, tells-not, tells-or, tells-as}
-
--- whether an answer is no refusal
-abbrev pub done : Answered → Bool
-done Done = true
-done (Refused r) = false
-
--- the same three as propositions
-pub record Same (a b : Segment) : Type 0 where
-  pub starts : startOf a ≡ startOf b
-  pub lens : a .len ≡ b .len
-
-abbrev pub Before : Segment → Segment → Type 0
-Before a b = (startOf a < startOf b) ⊎ ((startOf a ≡ startOf b) × (a .len < b .len))
-
-pub record Over (s : Segment) (first last : ℕ) : Type 0 where
-  pub some : s .len ≡ 0 → ⊥
-  pub reaches : first ≤ lastOf s
-  pub begins : startOf s ≤ last
 
 -- ---- order and overlap
 

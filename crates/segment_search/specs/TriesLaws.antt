@@ -13,8 +13,8 @@ use Rattle.laws.specs.TellsLaws.{tells-both, told, not-told}
 use Rattle.segment.specs.declared.Segment.{Segment}
 use Rattle.segment_search.specs.declared.Found.{Found}
 use Rattle.segment_search.specs.declared.Found.the-variants.{In, Nothing}
-use Rattle.segment.specs.Form.{startOf, lastOf, overb}
-use Rattle.segment.specs.FormLaws.{Over, over-tells}
+use Rattle.segment.specs.Form.{startOf, lastOf, overb, Over}
+use Rattle.segment.specs.FormLaws.{over-tells}
 use Rattle.laws.specs.TestLaws.{tells-eq, tells-le, tells-not}
 use Rattle.segment_search.specs.Search.{firstOver, count, aheadb, ahead, try, tries}
 

@@ -26,10 +26,9 @@ use Rattle.segments.specs.declared.manager.Reserved.the-variants as rese
 use Rattle.segments.specs.declared.manager.Released.the-variants as released
 use Rattle.segments.specs.declared.manager.SplitInto.the-variants as split
 use Rattle.segments.specs.declared.manager.Listed.the-variants as listed
-use Rattle.segment.specs.Form.{startOf, lastOf, formOf}
-use Rattle.segment.specs.FormLaws.{done, form-last}
-use Rattle.segments.specs.Table.{held, arena, stored, soundb, insert, removedAt, placeOf, noSegment, empty}
-use Rattle.segments.specs.TableLaws.{remove, heldb}
+use Rattle.segment.specs.Form.{startOf, lastOf, formOf, done}
+use Rattle.segment.specs.FormLaws.{form-last}
+use Rattle.segments.specs.Table.{held, arena, stored, soundb, insert, removedAt, placeOf, noSegment, empty, remove, heldb}
 use Rattle.segment_search.specs.Search.{firstOver, ahead, search}
 use Rattle.segment_search.specs.SegmentWords.{tableOf}
 use Rattle.segment_search.specs.SegmentWordsLaws.{table-length}

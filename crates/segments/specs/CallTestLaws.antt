@@ -8,10 +8,10 @@ use Rattle.address.specs.declared.VirtAddr.{VirtAddr}
 use Rattle.laws.specs.Tells.{Tells}
 use Rattle.laws.specs.TellsLaws.{tells-both}
 use Rattle.segment.specs.declared.Segment.{Segment}
-use Rattle.segment.specs.Form.{startOf, lastOf, overb}
-use Rattle.segment.specs.FormLaws.{Over, same-tells, over-tells, same-is}
+use Rattle.segment.specs.Form.{startOf, lastOf, overb, Over}
+use Rattle.segment.specs.FormLaws.{same-tells, over-tells, same-is}
 use Rattle.laws.specs.TestLaws.{tells-eq, tells-lt, tells-not, tells-or, tells-as}
-use Rattle.segments.specs.TableLaws.{heldb}
+use Rattle.segments.specs.Table.{heldb}
 use Rattle.segment_search.specs.Search.{firstOver}
 use Rattle.segments.specs.Calls.{isIn, overlapsb, insideb, low, high}
 use Rattle.segment_search.specs.TriesLaws.{by-test}

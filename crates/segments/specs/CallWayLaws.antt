@@ -16,14 +16,12 @@ use Rattle.segment.specs.declared.Answered.{Answered}
 use Rattle.segment.specs.declared.Answered.the-variants.{Done, Refused}
 use Rattle.segment_search.specs.declared.Search.{Search}
 use Rattle.segment_search.specs.declared.Search.the-variants.{Free, Full}
-use Rattle.segment.specs.FormLaws.{done}
+use Rattle.segment.specs.Form.{done, startOf, formOf}
 use Rattle.segments.specs.declared.table.VirtualMemoryManager.{VirtualMemoryManager}
 use Rattle.segments.specs.declared.manager.Reserved.the-variants as reserved
 use Rattle.segments.specs.declared.manager.Released.the-variants as released
 use Rattle.segments.specs.declared.manager.SplitInto.the-variants as split
-use Rattle.segment.specs.Form.{startOf, formOf}
-use Rattle.segments.specs.Table.{held, stored, soundb, insert, empty}
-use Rattle.segments.specs.TableLaws.{remove, heldb, Formed}
+use Rattle.segments.specs.Table.{held, stored, soundb, insert, empty, remove, heldb, Formed}
 use Rattle.segments.specs.Calls.{segment, newCall, lowest, reserveCall, checkedBy, overlapsb, markCall, releaseCall, insideb, pointAs, splitPoint, low, high, splitCall}
 use Rattle.segment_search.specs.TriesLaws.{by-test}
 

@@ -27,8 +27,7 @@ use Rattle.segments.specs.declared.manager.ReleaseAnswer.{ReleaseAnswer}
 use Rattle.segments.specs.declared.manager.SplitAnswer.{SplitAnswer}
 use Rattle.segments.specs.declared.manager.ListAnswer.{ListAnswer}
 use Rattle.segment.specs.Form.{startOf, lastOf, emptyb, formOf}
-use Rattle.segments.specs.Table.{held, arena, stored, soundb, insert, noSegment, empty}
-use Rattle.segments.specs.TableLaws.{remove, heldb}
+use Rattle.segments.specs.Table.{held, arena, stored, soundb, insert, noSegment, empty, remove, heldb}
 use Rattle.segment_search.specs.Search.{firstOver, search}
 
 abbrev pub segment : ℕ → ℕ → Segment

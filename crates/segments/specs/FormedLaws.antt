@@ -10,10 +10,9 @@ use Rattle.address.specs.Canonical.{canonical}
 use Rattle.laws.specs.Tells.{Tells}
 use Rattle.laws.specs.TellsLaws.{tells-both, told}
 use Rattle.segment.specs.declared.Segment.{Segment}
-use Rattle.segment.specs.Form.{startOf, lastOf, emptyb, inHalf, formOf}
-use Rattle.segment.specs.FormLaws.{done}
+use Rattle.segment.specs.Form.{startOf, lastOf, emptyb, inHalf, formOf, done}
 use Rattle.laws.specs.TestLaws.{tells-eq, tells-lt, tells-le, tells-or, tells-as}
-use Rattle.segments.specs.TableLaws.{Formed}
+use Rattle.segments.specs.Table.{Formed}
 use Rattle.segment_search.specs.TriesLaws.{by-test}
 use Rattle.segments.specs.RuleLaws.{formed-tells}
 

@@ -5,10 +5,8 @@ use Prim.Native.Nat.{ℕ, _+_, _-_, _≤_, _<_}
 use lib.Dec.{ltb, leb}
 use Rattle.segment.specs.declared.Segment.{Segment}
 use Rattle.segments.specs.declared.table.VirtualMemoryManager.{VirtualMemoryManager}
-use Rattle.segment.specs.Form.{startOf, lastOf, emptyb}
-use Rattle.segment.specs.FormLaws.{Over}
-use Rattle.segments.specs.Table.{held, arena}
-use Rattle.segments.specs.TableLaws.{All}
+use Rattle.segment.specs.Form.{startOf, lastOf, emptyb, Over}
+use Rattle.segments.specs.Table.{held, arena, All}
 
 -- ---- what a free start is
 

@@ -15,10 +15,9 @@ use Rattle.segment.specs.declared.Segment.{Segment}
 use Rattle.segment_search.specs.declared.Found.{Found}
 use Rattle.segment_search.specs.declared.Found.the-variants.{In, Nothing}
 use Rattle.segments.specs.declared.table.VirtualMemoryManager.{VirtualMemoryManager}
-use Rattle.segment.specs.Form.{startOf, lastOf, emptyb, formOf, sameb}
-use Rattle.segment.specs.FormLaws.{Same, Over, same-tells}
-use Rattle.segments.specs.Table.{held, arena, stored, noSegment, insert, empty}
-use Rattle.segments.specs.TableLaws.{All, Pairs, Formed, Apart, Rule, remove, heldb}
+use Rattle.segment.specs.Form.{startOf, lastOf, emptyb, formOf, sameb, Same, Over}
+use Rattle.segment.specs.FormLaws.{same-tells}
+use Rattle.segments.specs.Table.{held, arena, stored, noSegment, insert, empty, All, Pairs, Formed, Apart, Rule, remove, heldb}
 use Rattle.segment_search.specs.Search.{firstOver}
 use Rattle.segments.specs.Calls.{segment, newCall, reserveCall, isIn, overlapsb, markCall, releaseCall, low, high, splitCall}
 use Rattle.segment_search.specs.TriesLaws.{by-test}

@@ -9,8 +9,7 @@ use Rattle.segment_search.specs.declared.Search.{Search}
 use Rattle.segment_search.specs.declared.Search.the-variants.{Free, Full}
 use Rattle.segments.specs.declared.table.VirtualMemoryManager.{VirtualMemoryManager}
 use Rattle.segment.specs.Form.{startOf, lastOf}
-use Rattle.segments.specs.Table.{held, arena}
-use Rattle.segments.specs.TableLaws.{Rule}
+use Rattle.segments.specs.Table.{held, arena, Rule}
 use Rattle.segment_search.specs.Search.{count, ahead, search}
 use Rattle.segments.specs.Calls.{lowest}
 use Rattle.segment_search.specs.TriesLaws.{by-test}

@@ -13,9 +13,9 @@ use Rattle.segment_search.specs.declared.Found.{Found}
 use Rattle.segment_search.specs.declared.Found.the-variants.{In, Nothing}
 use Rattle.segment_search.specs.declared.Search.{Search}
 use Rattle.segment_search.specs.declared.Search.the-variants.{Free, Full}
-use Rattle.segment.specs.Form.{startOf, overb}
-use Rattle.segment.specs.FormLaws.{Over, over-tells}
-use Rattle.segments.specs.TableLaws.{All}
+use Rattle.segment.specs.Form.{startOf, overb, Over}
+use Rattle.segment.specs.FormLaws.{over-tells}
+use Rattle.segments.specs.Table.{All}
 use Rattle.segment_search.specs.Search.{firstOver, ahead, try, tries}
 use Rattle.segment_search.specs.TriesLaws.{by-test, first-cases, none-first, first-over, ahead-falls}
 use Rattle.segments.specs.FreeStart.{Clear}

@@ -6,8 +6,7 @@ use Prim.Native.Nat.{ℕ, _^_}
 use lib.ListN.{take}
 use Rattle.address.specs.Canonical.{canonical}
 use Rattle.segment.specs.Form.{formOf, inHalf}
-use Rattle.segments.specs.Table.{insert, soundb, walk}
-use Rattle.segments.specs.TableLaws.{remove, heldb}
+use Rattle.segments.specs.Table.{insert, soundb, walk, remove, heldb}
 use Rattle.segment_search.specs.Search.{firstOver, count, tries, search}
 use Rattle.segments.specs.Calls.{newCall, reserveCall, markCall, releaseCall, splitCall, listCall, checkedBy, splitPoint, insideb, overlapsb, lowest}
 use Rattle.segments.specs.PointForm.{Step, Row, allHold}

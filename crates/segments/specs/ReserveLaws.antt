@@ -10,8 +10,7 @@ use Rattle.segment_search.specs.declared.Search.the-variants.{Free, Full}
 use Rattle.segments.specs.declared.table.VirtualMemoryManager.{VirtualMemoryManager}
 use Rattle.segments.specs.declared.manager.Reserved.the-variants.{At, Refused}
 use Rattle.segment.specs.Form.{startOf}
-use Rattle.segments.specs.Table.{held, arena, stored, insert}
-use Rattle.segments.specs.TableLaws.{Rule}
+use Rattle.segments.specs.Table.{held, arena, stored, insert, Rule}
 use Rattle.segment_search.specs.Search.{count}
 use Rattle.segments.specs.Calls.{segment, lowest, reserveCall}
 use Rattle.segments.specs.FreeStart.{FreeStart, LowestStart, passedb}

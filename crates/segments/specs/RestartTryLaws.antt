@@ -13,10 +13,10 @@ use Rattle.segment.specs.declared.Segment.{Segment}
 use Rattle.segment_search.specs.declared.Found.{Found}
 use Rattle.segment_search.specs.declared.Found.the-variants.{In, Nothing}
 use Rattle.segment_search.specs.declared.Search.the-variants.{Free}
-use Rattle.segment.specs.Form.{startOf, lastOf, overb}
-use Rattle.segment.specs.FormLaws.{Before, Over, over-tells}
+use Rattle.segment.specs.Form.{startOf, lastOf, overb, Before, Over}
+use Rattle.segment.specs.FormLaws.{over-tells}
 use Rattle.laws.specs.TestLaws.{tells-eq, tells-lt, tells-le, tells-not, tells-as}
-use Rattle.segments.specs.TableLaws.{All, Pairs, Apart}
+use Rattle.segments.specs.Table.{All, Pairs, Apart}
 use Rattle.segment_search.specs.Search.{firstOver, count, ahead, try, tries}
 use Rattle.segment_search.specs.TriesLaws.{by-test, first-cases, none-first, first-over, ahead-falls, count-yes, count-no}
 use Rattle.segments.specs.RuleLaws.{all-map}

@@ -12,11 +12,10 @@ use Rattle.segment.specs.declared.Answered.{Answered}
 use Rattle.segment.specs.declared.Answered.the-variants.{Done, Refused}
 use Rattle.segments.specs.declared.table.VirtualMemoryManager.{VirtualMemoryManager}
 use Rattle.segments.specs.declared.table.Reach.{Reach}
-use Rattle.segment.specs.Form.{startOf, lastOf, emptyb, formOf}
-use Rattle.segment.specs.FormLaws.{done, Before, before-tells}
+use Rattle.segment.specs.Form.{startOf, lastOf, emptyb, formOf, done, Before}
+use Rattle.segment.specs.FormLaws.{before-tells}
 use Rattle.laws.specs.TestLaws.{tells-eq, tells-lt, tells-le, tells-or, tells-as}
-use Rattle.segments.specs.Table.{held, arena, reachWith, inOrder, followsb, walk, noSegment, noReach, soundb}
-use Rattle.segments.specs.TableLaws.{All, Pairs, Formed, Apart, Rule}
+use Rattle.segments.specs.Table.{held, arena, reachWith, inOrder, followsb, walk, noSegment, noReach, soundb, All, Pairs, Formed, Apart, Rule}
 use Rattle.segment_search.specs.TriesLaws.{by-test}
 
 -- ---- all rows of a list

@@ -1,7 +1,7 @@
 -- What the holders hold, as the rows that the code numbers: the entries, then the region slots.
 use mathlib.Core.Bool.{Bool, not, _&&_, cond}
 use mathlib.Core.List.{List, _++_, map}
-use Prim.Native.Nat.{ℕ, _/_}
+use Prim.Native.Nat.{ℕ, _/_, _+_}
 use lib.Dec.{eqb, ltb}
 use Rattle.model.specs.declared.Entry.{Entry}
 use Rattle.model.specs.declared.Region.{Region}
@@ -25,3 +25,6 @@ noHeld = record { frame = 256; page = 0; shared = 0 }
 
 unfoldable pub heldRows : Machine → List Held
 heldRows m = map entryHeld (m .entries) ++ map rangeHeld (m .regions)
+
+abbrev pub at : ℕ → Held → Bool
+at f x = eqb (x .frame) f

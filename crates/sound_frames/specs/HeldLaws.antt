@@ -20,7 +20,7 @@ use Rattle.lookup.specs.LookupsLaws.{entries-length, regions-length}
 use Rattle.laws.specs.ListsLaws.{past-append}
 use Rattle.laws.specs.CountLaws.{count-append}
 use Rattle.sound_frames.specs.declared.held.Held.{Held}
-use Rattle.sound_frames.specs.Held.{placeOf, entryHeld, rangeHeld, noHeld, heldRows}
+use Rattle.sound_frames.specs.Held.{placeOf, entryHeld, rangeHeld, noHeld, heldRows, at}
 
 -- ---- a row
 
@@ -105,9 +105,6 @@ marked true x f h = go (ltb x 256) refl
     go : (b : Bool) → ltb x 256 ≡ b → eqb x f ≡ eqb (cond b x 256) f
     go true p = refl
     go false p = let l = ltb-false x 256 p in ne-eqb x f (omega arith) ∙ sym (ne-eqb 256 f (omega arith))
-
-abbrev pub at : ℕ → Held → Bool
-at f x = eqb (x .frame) f
 
 pub holders-counted : (m : Machine) (f : ℕ) → f < 256 → holdersOf m f ≡ count (at f) (heldRows m)
 unfolding holdersOf holds entryHolds rangeHolds heldRows

@@ -10,9 +10,8 @@ use Rattle.model.specs.Machine.{Machine}
 use Rattle.laws.specs.Tests.{allRows}
 use Rattle.model.specs.Sound.{holdersOf}
 use Rattle.model.specs.Layout.{machine}
-use Rattle.laws.specs.LoopLaws.{Counted}
-use Rattle.sound_frames.specs.Held.{heldRows}
-use Rattle.sound_frames.specs.HeldLaws.{at}
+use Rattle.laws.specs.Loops.{Counted}
+use Rattle.sound_frames.specs.Held.{heldRows, at}
 
 -- a count for each frame
 abbrev pub Tallied : Machine → List ℕ → Type 0

@@ -16,10 +16,11 @@ use Rattle.model.specs.Machine.{Machine}
 use Rattle.laws.specs.Tests.{allRows}
 use Rattle.model.specs.Sound.{holdersOf}
 use Rattle.model.specs.SoundTest.{counted, r3b}
-use Rattle.laws.specs.LoopLaws.{Counted, counted-first, counted-more, counted-all}
+use Rattle.laws.specs.Loops.{Counted}
+use Rattle.laws.specs.LoopLaws.{counted-first, counted-more, counted-all}
 use Rattle.sound_frames.specs.declared.held.Held.{Held}
-use Rattle.sound_frames.specs.Held.{noHeld, heldRows}
-use Rattle.sound_frames.specs.HeldLaws.{at, held-length, holders-counted}
+use Rattle.sound_frames.specs.Held.{noHeld, heldRows, at}
+use Rattle.sound_frames.specs.HeldLaws.{held-length, holders-counted}
 use Rattle.sound_frames.specs.Tally.{Tallied, unheld, freeUnheld, heldTimes, Counts}
 use Rattle.laws.specs.TestLaws.{rows-both}
 

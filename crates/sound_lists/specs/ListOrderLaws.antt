@@ -15,7 +15,8 @@ use Rattle.model.specs.Machine.{Machine, processAt, orderOf}
 use Rattle.model.specs.Lookup.{regionsOf}
 use Rattle.laws.specs.Tests.{allRows, allPairs}
 use Rattle.model.specs.SoundTest.{listedb, pinnedIfDetached, orderedb}
-use Rattle.laws.specs.LoopLaws.{Every, every-first, every-fails, every-more, every-all}
+use Rattle.laws.specs.Loops.{Every}
+use Rattle.laws.specs.LoopLaws.{every-first, every-fails, every-more, every-all}
 use Rattle.laws.specs.TestLaws.{all-rows, rows-agree}
 use Rattle.laws.specs.FirstRowsLaws.{past-taken}
 use Rattle.sound_lists.specs.Marks.{marked}

@@ -16,7 +16,8 @@ use Rattle.model.specs.LookupLaws.{never-found}
 use Rattle.model.specs.Paging.{pageStart}
 use Rattle.model.specs.Sound.{homeOf}
 use Rattle.laws.specs.Tests.{allRows}
-use Rattle.laws.specs.LoopLaws.{Every, every-fails, every-more, every-all}
+use Rattle.laws.specs.Loops.{Every}
+use Rattle.laws.specs.LoopLaws.{every-fails, every-more, every-all}
 use Rattle.paging.specs.ProcessRows.{rowsOf}
 use Rattle.paging.specs.ProcessRowsLaws.{mapped-row}
 use Rattle.sound_lists.specs.Marks.{marked}

@@ -10,7 +10,7 @@ use Rattle.model.specs.declared.Found.{Found}
 use Rattle.model.specs.declared.Found.the-variants.{At, Nothing}
 use Rattle.model.specs.Machine.{State}
 use Rattle.model.specs.Lookup.{rowFound}
-use Rattle.model.specs.LookupLaws.{both-true}
+use Rattle.laws.specs.BoolLaws.{both-true}
 use Rattle.model.specs.Run.{step}
 use Rattle.model.specs.SoundTest.{soundb, r1b, r2b, r3b, r4b, r5b, r6b, sameFound}
 use Rattle.model.specs.Posix.{view}

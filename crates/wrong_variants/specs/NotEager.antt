@@ -9,7 +9,7 @@ use borrow.Author.Tests.{eqb-true}
 use Rattle.model.specs.declared.Found.the-variants.{At}
 use Rattle.model.specs.Machine.{State}
 use Rattle.model.specs.Lookup.{rowFound}
-use Rattle.model.specs.LookupLaws.{both-true}
+use Rattle.laws.specs.BoolLaws.{both-true}
 use Rattle.model.specs.Paging.{translate}
 use Rattle.model.specs.Backing.{backing}
 use Rattle.model.specs.Clone.{demote, shareEntry, shareRange}

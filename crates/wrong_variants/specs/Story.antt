@@ -8,7 +8,7 @@ use Rattle.model.specs.declared.Found.the-variants.{At}
 use Rattle.model.specs.declared.Done.the-variants.{Yes}
 use Rattle.model.specs.Machine.{State}
 use Rattle.model.specs.Lookup.{rowFound}
-use Rattle.model.specs.LookupLaws.{both-true}
+use Rattle.laws.specs.BoolLaws.{both-true}
 use Rattle.model.specs.Access.{granted, pageAt}
 use Rattle.model.specs.Calls as calls
 use Rattle.model.specs.Run.{Call, call, run}

@@ -2,7 +2,7 @@
 use mathlib.Core.Path.{ap, sym, _∙_}
 use Rattle.model.specs.Layout.{machine}
 use Rattle.create.specs.ReadyLaws.{words-spot}
-use Rattle.reserve.specs.Lowest.{foundSpot}
+use Rattle.reserve.specs.LowestSpot.{foundSpot}
 use Rattle.create.specs.PlansLaws.{search-spot, search-run, search-slot, search-all}
 use borrow.Author.Needs.{needs}
 use Rattle.create.proofs.plan.search.Statement.{statement}

@@ -5,7 +5,8 @@ use borrow.Author.Needs.{needs}
 use Rattle.model.specs.Layout.{machine}
 use Rattle.model.specs.Machine.{noEntry}
 use Rattle.model.specs.Lookup.{freeEntries}
-use Rattle.laws.specs.LoopLaws.{Counted, counted-first, counted-more, counted-all}
+use Rattle.laws.specs.Loops.{Counted}
+use Rattle.laws.specs.LoopLaws.{counted-first, counted-more, counted-all}
 use Rattle.lookup.specs.LookupsLaws.{unowned, entries-length}
 use Rattle.lookup.proofs.search.free_entries.Statement.{statement}
 use Rattle.lookup.proofs.search.free_entries.Tie as tie

@@ -5,7 +5,8 @@ use borrow.Author.Needs.{needs}
 use Rattle.model.specs.Layout.{machine}
 use Rattle.model.specs.Machine.{noRegion}
 use Rattle.model.specs.Lookup.{regionsOf, freeSlots}
-use Rattle.laws.specs.LoopLaws.{Counted, counted-first, counted-more, counted-all}
+use Rattle.laws.specs.Loops.{Counted}
+use Rattle.laws.specs.LoopLaws.{counted-first, counted-more, counted-all}
 use Rattle.lookup.specs.LookupsLaws.{freeRegion, slots-length, slot-at}
 use Rattle.lookup.proofs.search.free_slots.Statement.{statement}
 use Rattle.lookup.proofs.search.free_slots.Tie as tie

@@ -6,7 +6,8 @@ use borrow.Author.Tests.{not-true, not-false}
 use Rattle.model.specs.Machine.{noFile}
 use Rattle.rows.specs.FileRow.{isLent}
 use Rattle.laws.specs.TestLaws.{all-rows}
-use Rattle.laws.specs.LoopLaws.{Every, every-first, every-fails, every-more, every-all}
+use Rattle.laws.specs.Loops.{Every}
+use Rattle.laws.specs.LoopLaws.{every-first, every-fails, every-more, every-all}
 use Rattle.process.specs.Start.{filesOf}
 use Rattle.process.specs.StartLaws.{files-number, file-row}
 use borrow.Author.Needs.{needs}

@@ -6,7 +6,8 @@ use borrow.Author.Needs.{needs}
 use borrow.Author.Tests.{not-true, not-false}
 use Rattle.model.specs.Layout.{machine}
 use Rattle.model.specs.Machine.{noBacking}
-use Rattle.laws.specs.LoopLaws.{Every, every-first, every-fails, every-more, every-all}
+use Rattle.laws.specs.Loops.{Every}
+use Rattle.laws.specs.LoopLaws.{every-first, every-fails, every-more, every-all}
 use Rattle.lookup.specs.LookupsLaws.{backings-length}
 use Rattle.sound_frames.specs.TallyLaws.{heldIn, held-rows, tallied-test}
 use Rattle.sound_frames.proofs.holders.counted.Statement.{statement}

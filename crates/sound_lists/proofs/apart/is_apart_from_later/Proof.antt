@@ -9,7 +9,8 @@ use Rattle.model.specs.Machine.{noRegion}
 use Rattle.model.specs.Lookup.{regionsOf}
 use Rattle.model.specs.SoundTest.{apartb}
 use Rattle.lookup.specs.LookupsLaws.{slots-length, slot-at}
-use Rattle.laws.specs.LoopLaws.{Rest, rest-fails, rest-more, rest-all}
+use Rattle.laws.specs.Loops.{Rest}
+use Rattle.laws.specs.LoopLaws.{rest-fails, rest-more, rest-all}
 use Rattle.sound_lists.proofs.apart.is_apart_from_later.Statement.{statement}
 use Rattle.sound_lists.proofs.apart.is_apart_from_later.Tie as tie
 

@@ -8,7 +8,8 @@ use Rattle.model.specs.Layout.{machine}
 use Rattle.model.specs.Machine.{noRegion}
 use Rattle.model.specs.Lookup.{regionsOf, isUsed}
 use Rattle.model.specs.SoundTest.{apartb}
-use Rattle.laws.specs.LoopLaws.{Every, every-first, every-fails, every-more, every-all}
+use Rattle.laws.specs.Loops.{Every}
+use Rattle.laws.specs.LoopLaws.{every-first, every-fails, every-more, every-all}
 use Rattle.lookup.specs.LookupsLaws.{slots-length}
 use Rattle.laws.specs.Tests.{later}
 use Rattle.laws.specs.TestLaws.{pairs-rows}

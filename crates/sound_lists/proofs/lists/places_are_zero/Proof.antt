@@ -7,7 +7,8 @@ use borrow.Author.Tests.{eq-eqb, ne-eqb}
 use Rattle.model.specs.Layout.{machine}
 use Rattle.laws.specs.Lists.{part}
 use Rattle.laws.specs.ListsLaws.{part-at}
-use Rattle.laws.specs.LoopLaws.{Rest, rest-fails, rest-more, rest-all}
+use Rattle.laws.specs.Loops.{Rest}
+use Rattle.laws.specs.LoopLaws.{rest-fails, rest-more, rest-all}
 use Rattle.lookup.specs.AttachedLaws.{places-length}
 use Rattle.sound_lists.specs.ListOrder.{isZero}
 use Rattle.sound_lists.proofs.lists.places_are_zero.Statement.{statement}

@@ -7,7 +7,8 @@ use borrow.Author.Tests.{not-true, not-false}
 use Rattle.model.specs.Layout.{machine}
 use Rattle.model.specs.Machine.{noProcess}
 use Rattle.model.specs.SoundTest.{pagedb}
-use Rattle.laws.specs.LoopLaws.{Every, every-first, every-fails, every-more, every-all}
+use Rattle.laws.specs.Loops.{Every}
+use Rattle.laws.specs.LoopLaws.{every-first, every-fails, every-more, every-all}
 use Rattle.lookup.specs.LookupsLaws.{processes-length}
 use Rattle.sound_lists.proofs.pages.paged.Statement.{statement}
 use Rattle.sound_lists.proofs.pages.paged.Tie as tie

@@ -6,7 +6,8 @@ use borrow.Author.Needs.{needs}
 use borrow.Author.Tests.{not-true, not-false}
 use Rattle.model.specs.Layout.{machine}
 use Rattle.model.specs.Machine.{noMapping, mappedOf}
-use Rattle.laws.specs.LoopLaws.{Every, every-first, every-fails, every-more, every-all}
+use Rattle.laws.specs.Loops.{Every}
+use Rattle.laws.specs.LoopLaws.{every-first, every-fails, every-more, every-all}
 use Rattle.sound_lists.specs.PageOrder.{follows}
 use Rattle.sound_lists.specs.PageOrderLaws.{page-follows, neighbours-rise}
 use Rattle.sound_lists.proofs.pages.pages_rise.Statement.{statement}

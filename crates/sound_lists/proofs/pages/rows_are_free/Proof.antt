@@ -9,7 +9,8 @@ use Rattle.laws.specs.Lists.{part}
 use Rattle.model.specs.Machine.{noMapping}
 use Rattle.model.specs.SoundTest.{freeMapping}
 use Rattle.laws.specs.ListsLaws.{part-at}
-use Rattle.laws.specs.LoopLaws.{Rest, rest-fails, rest-more, rest-all}
+use Rattle.laws.specs.Loops.{Rest}
+use Rattle.laws.specs.LoopLaws.{rest-fails, rest-more, rest-all}
 use Rattle.sound_lists.specs.PageOrderLaws.{pages-length}
 use Rattle.sound_lists.proofs.pages.rows_are_free.Statement.{statement}
 use Rattle.sound_lists.proofs.pages.rows_are_free.Tie as tie

@@ -5,7 +5,8 @@ use borrow.Author.Needs.{needs}
 use Rattle.model.specs.Layout.{machine}
 use Rattle.model.specs.Machine.{noEntry}
 use Rattle.model.specs.SoundTest.{entryFits}
-use Rattle.laws.specs.LoopLaws.{Every, every-first, every-fails, every-more, every-all}
+use Rattle.laws.specs.Loops.{Every}
+use Rattle.laws.specs.LoopLaws.{every-first, every-fails, every-more, every-all}
 use Rattle.lookup.specs.LookupsLaws.{entries-length}
 use Rattle.laws.specs.TestChainLaws.{refused, allowed}
 use Rattle.sound_rows.proofs.entries.entries_fit.Statement.{statement}

@@ -6,7 +6,8 @@ use borrow.Author.Tests.{eq-eqb, ne-eqb}
 use Rattle.model.specs.Layout.{machine}
 use Rattle.model.specs.Machine.{noRegion}
 use Rattle.model.specs.Lookup.{regionsOf}
-use Rattle.laws.specs.LoopLaws.{Every, every-first, every-fails, every-more, every-all}
+use Rattle.laws.specs.Loops.{Every}
+use Rattle.laws.specs.LoopLaws.{every-first, every-fails, every-more, every-all}
 use Rattle.lookup.specs.LookupsLaws.{slots-length, slot-at}
 use Rattle.sound_rows.specs.ProcessRow.{noSlot}
 use Rattle.sound_rows.proofs.processes.no_region.Statement.{statement}

@@ -5,7 +5,8 @@ use native.Mathlib.Omega.{arith}
 use borrow.Author.Needs.{needs}
 use Rattle.model.specs.Layout.{machine}
 use Rattle.model.specs.Machine.{noFile}
-use Rattle.laws.specs.LoopLaws.{Every, every-first, every-fails, every-more, every-all}
+use Rattle.laws.specs.Loops.{Every}
+use Rattle.laws.specs.LoopLaws.{every-first, every-fails, every-more, every-all}
 use Rattle.sound_rows.specs.Sizes.{fileFitsIn}
 use Rattle.lookup.specs.LookupsLaws.{files-length}
 use Rattle.laws.specs.TestChainLaws.{refused, allowed}

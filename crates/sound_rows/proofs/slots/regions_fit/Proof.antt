@@ -5,7 +5,8 @@ use borrow.Author.Needs.{needs}
 use Rattle.model.specs.Layout.{machine}
 use Rattle.model.specs.Machine.{noRegion}
 use Rattle.model.specs.SoundTest.{regionFits}
-use Rattle.laws.specs.LoopLaws.{Every, every-first, every-fails, every-more, every-all}
+use Rattle.laws.specs.Loops.{Every}
+use Rattle.laws.specs.LoopLaws.{every-first, every-fails, every-more, every-all}
 use Rattle.lookup.specs.LookupsLaws.{regions-length}
 use Rattle.laws.specs.TestChainLaws.{refused, allowed}
 use Rattle.sound_rows.proofs.slots.regions_fit.Statement.{statement}

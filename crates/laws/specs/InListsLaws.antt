@@ -1,4 +1,4 @@
--- Laws of the small functions on lists (model: Lists, Tests): what is kept, found among others, counted up; every row, every two rows.
+-- Laws of the small functions on lists (Lists, Tests): what is kept, found among others, counted up; every row, every two rows.
 use mathlib.Core.Path.{_≡_, refl, ap, sym, subst, _∙_}
 use mathlib.Core.Logic.{_⊎_, inl, inr, _≢_}
 use mathlib.Core.Bool.{Bool, true, false, _||_, not, cond, true≢false, false≢true}
@@ -10,10 +10,11 @@ use native.Mathlib.Decide.{ℕ-discrete}
 use lib.ListN.{length, getD}
 use lib.Dec.{eqb, ltb}
 use borrow.Author.Tests.{eqb-true, eq-eqb, ltb-true, ltb-false, eqb-false, ne-eqb, not-true}
 use Rattle.laws.specs.Lists.{keep, any, among, upFrom, first}
 use Rattle.laws.specs.Tests.{Rows, Pairs}
-use Rattle.keeping.specs.In.{In, Once, Stands}
-use Rattle.keeping.specs.InLaws.{in-at, in-row}
+use Rattle.laws.specs.In.{In, Once, Stands}
+use Rattle.laws.specs.InLaws.{in-at, in-row}
+use Rattle.laws.specs.ListsLaws.{keep-most}
 
 -- ---- every row, every two rows
 
@@ -153,15 +154,6 @@ keep-none f (x ∷ l) n = go (f x) refl (keep-none f l (λ t k. n t (inr k)))
     go true p q = absurd (n x (inl refl) p)
     go false p q = q
 
-pub length-keep : {A : Type 0} (f : A → Bool) (l : List A) → length (keep f l) ≤ length l
-unfolding keep
-length-keep f [] = zero-le
-length-keep f (x ∷ l) = go (f x) (length-keep f l)
-  where
-    go : (b : Bool) → length (keep f l) ≤ length l → length (cond b (x ∷ keep f l) (keep f l)) ≤ suc (length l)
-    go true h = suc-le-suc h
-    go false h = omega arith
-
 pub once-keep : (f : ℕ → Bool) (l : List ℕ) → Once l → Once (keep f l)
 unfolding keep
 once-keep f [] o = tt
@@ -183,7 +175,7 @@ pub without-in : (x y : ℕ) (l : List ℕ) → In y l → y ≢ x → In y (wit
 without-in x y l i n = keep-in (λ z. not (eqb z x)) y l i (rw (ne-eqb y x n) refl)
 
 pub length-without : (x : ℕ) (l : List ℕ) → length (without x l) ≤ length l
-length-without x l = length-keep (λ y. not (eqb y x)) l
+length-without x l = keep-most (λ y. not (eqb y x)) l
 
 pub once-without : (x : ℕ) (l : List ℕ) → Once l → Once (without x l)
 once-without x l = once-keep (λ y. not (eqb y x)) l

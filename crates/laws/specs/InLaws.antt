@@ -5,7 +5,7 @@ use mathlib.Core.List.{List, [], _∷_, _++_, map, append-nil}
 use Prim.Native.Nat.{ℕ, zero, suc, _<_, zero-le, suc-le-suc}
 use native.Mathlib.Nat.{le-of-suc-le-suc, not-suc-le-zero}
 use lib.ListN.{length, getD}
-use Rattle.keeping.specs.In.{In, Once, Stands}
+use Rattle.laws.specs.In.{In, Once, Stands}
 
 -- the rows of a list are in it
 pub in-at : {A : Type 0} (d : A) (l : List A) (i : ℕ) → i < length l → In (getD l i d) l

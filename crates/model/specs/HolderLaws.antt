@@ -3,20 +3,20 @@ use mathlib.Core.Path.{_≡_, refl, ap, _∙_}
 use mathlib.Core.Logic.{_≢_}
 use mathlib.Core.Bool.{Bool, true, false, _&&_, not, cond}
 use mathlib.Core.List.{List, [], _∷_, map}
-use Prim.Native.Nat.{ℕ, zero, suc, _+_, _<_}
+use Prim.Native.Nat.{ℕ, zero, suc, _+_, _<_, _-_, _/_}
 use native.Mathlib.Nat.{le-of-suc-le-suc, not-suc-le-zero}
 use native.Mathlib.Omega.{arith}
 use lib.ListN.{length, getD, set}
 use lib.Dec.{eqb}
 use borrow.Author.Tests.{eq-eqb, ne-eqb}
 use Rattle.model.specs.declared.Entry.{Entry}
 use Rattle.model.specs.declared.Region.{Region}
-use Rattle.laws.specs.Lists.{keep}
+use Rattle.laws.specs.Lists.{keep, count}
 use Rattle.model.specs.Machine.{Machine}
-use Rattle.model.specs.Lookup.{count, isUsed, isRanged}
+use Rattle.model.specs.Lookup.{isUsed, isRanged, isShared}
 use Rattle.model.specs.Sound.{Hold, holds, entryHolds, rangeHolds, holdersOf, Used}
-use Rattle.keeping.specs.CountLaws.{count-append}
-use Rattle.keeping.specs.Owing.{entryHold, rangeHold}
+use Rattle.laws.specs.CountLaws.{count-append}
+use Rattle.model.specs.Create.{one}
 
 abbrev pub oneIf : Bool → ℕ
 oneIf b = cond b 1 0
@@ -62,8 +62,17 @@ entryTaken e = not (eqb (e .owner) 0)
 abbrev pub rangeTaken : Region → Bool
 rangeTaken r = isUsed r && isRanged r
 
+-- ---- the holds of a machine
+
+-- the hold of an entry, of a range
+abbrev pub entryHold : Entry → Hold
+entryHold e = record { frame = e .frame .0; page = e .page .0; shared = 0 }
+
 abbrev pub entriesHold : List Entry → ℕ → ℕ
 entriesHold l f = holding entryTaken entryHold f l
+
+abbrev pub rangeHold : Region → Hold
+rangeHold r = record { frame = r .range .0; page = r .start .0 / 4096; shared = one (isShared r) }
 
 abbrev pub rangesHold : List Region → ℕ → ℕ
 rangesHold l f = holding rangeTaken rangeHold f l
