@@ -32,10 +32,10 @@ one-word [] v e = let z : _≡_ {A = ℕ} 0 1 = e in absurd (omega arith)
 one-word (x ∷ []) v e = refl
 one-word (x ∷ y ∷ l) v e = absurd (omega arith)
 
--- creation at a place that was worked out first
-module _ (call : Place → State → After Placed) (w f b : List ℕ) where
+-- creation by what was worked out first: its place, its fork policy
+module _ {A : Type 0} (call : A → State → After Placed) (w f b : List ℕ) where
   pub placed-out :
-      (pl pl' : Place)
+      (pl pl' : A)
       → pl ≡ pl'
       → (x : Placed) (n : ℕ) (out out' w' f' : List ℕ)
       → length out ≡ 1
@@ -45,5 +45,5 @@ module _ (call : Place → State → After Placed) (w f b : List ℕ) where
       → out' ≡ ofPlaced x .values
       → Told (ofPlaced (answerOn placed.No (call pl') w f b)) 1 n out out' × LeavesOut (call pl') 1 out w f b w' f'
   placed-out pl pl' e x n out out' w' f' h a l p q =
-      subst (λ (y : Place). Told (ofPlaced (answerOn placed.No (call y) w f b)) 1 n out out' × LeavesOut (call y) 1 out w f b w' f') e
+      subst (λ (y : A). Told (ofPlaced (answerOn placed.No (call y) w f b)) 1 n out out' × LeavesOut (call y) 1 out w f b w' f') e
       (told-all _ _ _ _ _ h (p ∙ ap (λ (z : Placed). ofPlaced z .number) a) (q ∙ ap (λ (z : Placed). ofPlaced z .values) a), left-out _ _ _ _ _ _ h _ _ l)

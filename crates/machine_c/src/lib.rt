@@ -11,6 +11,7 @@ ghost use Rattle.model.specs.declared.Placed.the-variants as placed;
 ghost use Rattle.model.specs.declared.Covering.the-variants as covering;
 ghost use Rattle.model.specs.declared.Loaded.the-variants as loaded;
 ghost use Rattle.model.specs.Answers.{ofDone, ofOpened, ofPlaced, ofCovering, ofLoaded, ofListed, notListed};
+ghost use Rattle.model.specs.Create.{isCopy, isEager};
 ghost use Rattle.model.specs.Calls as model;
 ghost use Rattle.soundness.specs.SoundLent.{soundLent};
 ghost use Rattle.calls.specs.Answered.{answerOn, Leaves};
@@ -20,7 +21,9 @@ ghost use Rattle.machine_c.specs.Out.{Told, LeavesOut, StartTold};
 mod told;
 
 use address::VirtAddr;
+use model::ForkPolicy;
 use model::Place;
+use model::Population;
 use soundness::is_sound;
 use told::tell_covering;
 use told::tell_done;
@@ -186,6 +189,26 @@ fn place_at(given: u64, start: u64) -> Place
     Place::At(VirtAddr(start))
 }
 
+// The fork policy that a number stands for: CopyOnWrite where it is 0.
+fn fork_of(copy: u64) -> ForkPolicy
+    ensures { λ r. ⌜ isCopy r ≡ not (eqb copy 0) ⌝ }
+{
+    if copy == 0 {
+        return ForkPolicy::CopyOnWrite;
+    }
+    ForkPolicy::CopyEager
+}
+
+// When a region gets its frames, by a number: Lazy where it is 0.
+fn population_of(eager: u64) -> Population
+    ensures { λ r. ⌜ isEager r ≡ not (eqb eager 0) ⌝ }
+{
+    if eager == 0 {
+        return Population::Lazy;
+    }
+    Population::Eager
+}
+
 // Creates a private region, lazy or eager: its start is out[0].
 #[no_mangle]
 pub extern "C" fn machine_create_private(
@@ -209,6 +232,8 @@ pub extern "C" fn machine_create_private(
         return 1;
     }
     let place = place_at(given, start);
+    let population = population_of(eager);
+    let fork = fork_of(copy);
     tell_placed(
         calls::create_private(
             words,
@@ -216,10 +241,10 @@ pub extern "C" fn machine_create_private(
             files,
             process,
             place,
-            eager != 0,
+            population,
             size,
             flags,
-            copy != 0,
+            fork,
             thread != 0,
         ),
         out,
@@ -251,6 +276,7 @@ pub extern "C" fn machine_create_file(
         return 1;
     }
     let place = place_at(given, start);
+    let fork = fork_of(copy);
     tell_placed(
         calls::create_file(
             words,
@@ -260,7 +286,7 @@ pub extern "C" fn machine_create_file(
             place,
             size,
             flags,
-            copy != 0,
+            fork,
             thread != 0,
             file,
             offset,

@@ -72,13 +72,13 @@ pub load-keeps : (p a : ℕ) (s : State) → load s p a .state ≡ s
 unfolding load
 load-keeps p a s = keeps-guarded s _ _ _ refl
 
--- creation, whose place was computed
-pub placed-by : (kind : Place → State → After Placed) (x y : Place) (w f b w' f' : List ℕ) (p : Placed) (r : Answer) → x ≡ y
+-- creation, whose place and fork policy were computed
+pub placed-by : {A : Type 0} (kind : A → State → After Placed) (x y : A) (w f b w' f' : List ℕ) (p : Placed) (r : Answer) → x ≡ y
     → p ≡ answerOn placed.No (kind x) w f b → Leaves (kind x) w f b w' f' → r ≡ placedAs p
     → (r ≡ answerOn Refused (λ s. written placedAs (kind y s)) w f b) × Leaves (λ s. written placedAs (kind y s)) w f b w' f'
 unfolding placedAs
-placed-by kind x y w f b w' f' p r e a l q =
-    subst (λ (z : Place). (r ≡ answerOn Refused (λ s. written placedAs (kind z s)) w f b) × Leaves (λ s. written placedAs (kind z s)) w f b w' f') e
+placed-by {A} kind x y w f b w' f' p r e a l q =
+    subst (λ (z : A). (r ≡ answerOn Refused (λ s. written placedAs (kind z s)) w f b) × Leaves (λ s. written placedAs (kind z s)) w f b w' f') e
     (answered-as placedAs placed.No (λ q. refl) (kind x) w f b p r a q, leaves-as placedAs placed.No (λ q. refl) (kind x) w f b w' f' l)
 
 -- the call that an arm ran

@@ -1,5 +1,6 @@
 // The machine's calls on lent memory: each is the call of crate `calls`, its answer as the script writes it.
 ghost use mathlib.Core.Path.{_≡_};
+ghost use Rattle.model.specs.Create.{isCopy, isEager};
 ghost use Rattle.calls.specs.Answered.{answerOn, Leaves};
 ghost use Rattle.answer_text.specs.declared.answer.Answer.the-variants as text;
 ghost use Rattle.script_step.specs.declared.asked.MachineCall.the-variants as machine;
@@ -12,10 +13,12 @@ use call_text::Part;
 use call_text::Spot;
 use model::Covering;
 use model::Done;
+use model::ForkPolicy;
 use model::Loaded;
 use model::Opened;
 use model::Place;
 use model::Placed;
+use model::Population;
 
 // Runs a call of the machine.
 pub fn run(words: &mut [u64], frames: &mut [u8], files: &[u8], call: MachineCall) -> Answer
@@ -59,6 +62,26 @@ fn close(words: &mut [u64], frames: &[u8], files: &[u8], process: u64) -> Answer
     done_as(calls::close(words, frames, files, process))
 }
 
+// The fork policy of a script's mark.
+fn fork_of(copy: bool) -> ForkPolicy
+    ensures { λ r. ⌜ isCopy r ≡ copy ⌝ }
+{
+    if copy {
+        return ForkPolicy::CopyEager;
+    }
+    ForkPolicy::CopyOnWrite
+}
+
+// When a region gets its frames, by a script's word.
+fn population_of(eager: bool) -> Population
+    ensures { λ r. ⌜ isEager r ≡ eager ⌝ }
+{
+    if eager {
+        return Population::Eager;
+    }
+    Population::Lazy
+}
+
 fn create_private(
     words: &mut [u64],
     frames: &mut [u8],
@@ -73,16 +96,18 @@ fn create_private(
     ensures { λ _. ⌜ Leaves (answerOf (machine.CreatePrivate process spot eager size marks)) (now (words .entry)) (now (frames .entry)) (now (files .entry)) (now (words .exit)) (now (frames .exit)) ⌝ }
 {
     let place = place_of(spot);
+    let population = population_of(eager);
+    let fork = fork_of(marks.copy);
     placed_as(calls::create_private(
         words,
         frames,
         files,
         process,
         place,
-        eager,
+        population,
         size,
         marks.flags,
-        marks.copy,
+        fork,
         marks.thread,
     ))
 }
@@ -101,6 +126,7 @@ fn create_file(
     ensures { λ _. ⌜ Leaves (answerOf (machine.CreateFile process spot size marks part)) (now (words .entry)) (now (frames .entry)) (now (files .entry)) (now (words .exit)) (now (frames .exit)) ⌝ }
 {
     let place = place_of(spot);
+    let fork = fork_of(marks.copy);
     placed_as(calls::create_file(
         words,
         frames,
@@ -109,7 +135,7 @@ fn create_file(
         place,
         size,
         marks.flags,
-        marks.copy,
+        fork,
         marks.thread,
         part.file,
         part.offset,
