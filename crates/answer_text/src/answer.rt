@@ -2,12 +2,11 @@
 ghost use Prim.Native.Nat.{_+_, _≤_};
 ghost use lib.ListN.{length};
 use answers::Refusal;
+use text::Row;
 use text::put;
-use text::put_decimal_word;
-use text::put_end;
+use text::put_decimal;
 use text::put_hex_word;
-use text::put_with_decimal;
-use text::put_word;
+use text::put_row;
 
 // What a call answers, lists and the machine's state aside. A number is an address or a length, in hexadecimal, or a count.
 pub enum Answer {
@@ -21,53 +20,50 @@ pub enum Answer {
     Refused(Refusal),
 }
 
-// Puts an answer.
+// Puts an answer. The words are the names of refusals by their numbers, from 1 on.
 pub fn put_answer(out: &mut [u8], at: usize, answer: Answer) -> usize
     requires { ⌜ at + 160 ≤ length (now out) ⌝ }
     ensures { λ r. ⌜ r ≤ at + 160 ⌝ }
 {
+    put_row(
+        out,
+        at,
+        160,
+        row_of(answer),
+        b"ok\n ok_yes\n ok_no\n ok_$_#\n ok_$_$_$_$\n ok_$\n ok_#\n no_#_@\n",
+        b"- BadTable NoProcess BadAddress BadRange BadFlags NoFile NoRegion NoSpace SegmentReserved InvalidSplitPoint \
+        NotReserved NotAccessible NotWritable OutOfMemory ReadFailed MapFailed UnsupportedRegion EagerBacking \
+        Shared InUse TableFull Denied",
+        b"",
+    )
+}
+
+// The row of an answer.
+fn row_of(answer: Answer) -> Row {
     match answer {
-        Answer::Done => put(out, at, b"ok\n"),
-        Answer::Yes => put(out, at, b"ok yes\n"),
-        Answer::No => put(out, at, b"ok no\n"),
-        Answer::Start(start, restarts) => put_start(out, at, start, restarts),
-        Answer::Parts(a, b, c, d) => put_parts(out, at, a, b, c, d),
-        Answer::Hex(n) => put_number(out, at, n),
-        Answer::Count(n) => {
-            let next = put_count(out, at, n);
-            put_end(out, next)
-        }
-        Answer::Refused(why) => put_refusal(out, at, why),
+        Answer::Done => row(0, 0, 0, 0, 0),
+        Answer::Yes => row(1, 0, 0, 0, 0),
+        Answer::No => row(2, 0, 0, 0, 0),
+        Answer::Start(start, restarts) => row(3, start, restarts, 0, 0),
+        Answer::Parts(a, b, c, d) => row(4, a, b, c, d),
+        Answer::Hex(n) => row(5, n, 0, 0, 0),
+        Answer::Count(n) => row(6, n, 0, 0, 0),
+        Answer::Refused(why) => row(7, why.number(), why.number(), 0, 0),
     }
 }
 
-fn put_start(out: &mut [u8], at: usize, start: u64, restarts: u64) -> usize
-    requires { ⌜ at + 160 ≤ length (now out) ⌝ }
-    ensures { λ r. ⌜ r ≤ at + 160 ⌝ }
-{
-    let next = put(out, at, b"ok");
-    let next = put_hex_word(out, next, start);
-    let next = put_decimal_word(out, next, restarts);
-    put_end(out, next)
+fn row(form: u64, a: u64, b: u64, c: u64, d: u64) -> Row {
+    let numbers = [a, b, c, d, 0, 0, 0, 0, 0, 0, 0, 0, 0, 0, 0, 0];
+    Row { form, numbers }
 }
 
-fn put_number(out: &mut [u8], at: usize, n: u64) -> usize
-    requires { ⌜ at + 160 ≤ length (now out) ⌝ }
-    ensures { λ r. ⌜ r ≤ at + 160 ⌝ }
+// Puts the start of a list's answer: `ok` and how many there are.
+pub fn put_count(out: &mut [u8], at: usize, count: u64) -> usize
+    requires { ⌜ at + 23 ≤ length (now out) ⌝ }
+    ensures { λ r. ⌜ r ≤ at + 23 ⌝ }
 {
-    let next = put(out, at, b"ok");
-    let next = put_hex_word(out, next, n);
-    put_end(out, next)
-}
-
-fn put_parts(out: &mut [u8], at: usize, a: u64, b: u64, c: u64, d: u64) -> usize
-    requires { ⌜ at + 160 ≤ length (now out) ⌝ }
-    ensures { λ r. ⌜ r ≤ at + 160 ⌝ }
-{
-    let next = put(out, at, b"ok");
-    let next = put_pair(out, next, a, b);
-    let next = put_pair(out, next, c, d);
-    put_end(out, next)
+    let next = put(out, at, b"ok ");
+    put_decimal(out, next, count)
 }
 
 // Puts a segment, with a blank before each number.
@@ -77,48 +73,4 @@ pub fn put_pair(out: &mut [u8], at: usize, start: u64, len: u64) -> usize
 {
     let next = put_hex_word(out, at, start);
     put_hex_word(out, next, len)
-}
-
-// Puts the start of a list's answer: `ok` and how many there are.
-pub fn put_count(out: &mut [u8], at: usize, count: u64) -> usize
-    requires { ⌜ at + 23 ≤ length (now out) ⌝ }
-    ensures { λ r. ⌜ r ≤ at + 23 ⌝ }
-{
-    put_with_decimal(out, at, b"ok ", count)
-}
-
-fn put_refusal(out: &mut [u8], at: usize, why: Refusal) -> usize
-    requires { ⌜ at + 160 ≤ length (now out) ⌝ }
-    ensures { λ r. ⌜ r ≤ at + 160 ⌝ }
-{
-    let next = put_with_decimal(out, at, b"no ", why.number());
-    let next = put(out, next, b" ");
-    let next = put_name(out, next, why);
-    put_end(out, next)
-}
-
-// Puts a refusal's name.
-fn put_name(out: &mut [u8], at: usize, why: Refusal) -> usize
-    requires { ⌜ at + 17 ≤ length (now out) ⌝ }
-    ensures { λ r. ⌜ r ≤ at + 17 ⌝ }
-{
-    let names =
-        b"BadTable         NoProcess        BadAddress       BadRange         BadFlags         NoFile           \
-        NoRegion         NoSpace          SegmentReserved  InvalidSplitPointNotReserved      NotAccessible    \
-        NotWritable      OutOfMemory      ReadFailed       MapFailed        UnsupportedRegionEagerBacking     \
-        Shared           InUse            TableFull        Denied           ";
-    put_word(out, at, names, row_of(why.number()) * 17, 17)
-}
-
-// The row of a refusal's name in their table.
-fn row_of(number: u64) -> usize
-    ensures { λ r. ⌜ r ≤ 22 ⌝ }
-{
-    if number == 0 {
-        return 22;
-    }
-    if number < 23 {
-        return number as usize - 1;
-    }
-    22
 }

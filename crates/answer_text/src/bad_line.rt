@@ -4,22 +4,24 @@ ghost use lib.ListN.{length};
 use call_text::Either;
 use call_text::Fault;
 use call_text::Operand;
+use text::Row;
 use text::Word;
 use text::part_of;
-use text::put;
-use text::put_end;
-use text::put_with_decimal;
-use text::put_word;
+use text::put_row;
+
+// A form for what is wrong, the name that it takes, and the word of the line that it is about.
+struct Reason {
+    form: u64,
+    name: u64,
+    word: Word,
+}
 
 // Puts what is wrong with a line.
 pub fn put_fault(out: &mut [u8], at: usize, line: &[u8], number: u64, fault: Fault) -> usize
     requires { ⌜ at + 160 ≤ length (now out) ⌝ }
     ensures { λ r. ⌜ r ≤ at + 160 ⌝ }
 {
-    let next = put_with_decimal(out, at, b"? line ", number);
-    let next = put(out, next, b": ");
-    let next = put_reason(out, next, line, fault);
-    put_end(out, next)
+    put_reason(out, at, line, number, reason_of(fault))
 }
 
 // Puts that a line's call, named by a word of it, is not there yet.
@@ -27,101 +29,122 @@ pub fn put_not_yet(out: &mut [u8], at: usize, line: &[u8], number: u64, word: Wo
     requires { ⌜ at + 160 ≤ length (now out) ⌝ }
     ensures { λ r. ⌜ r ≤ at + 160 ⌝ }
 {
-    let next = put_with_decimal(out, at, b"? line ", number);
-    let next = put(out, next, b": ");
-    let next = put_shown(out, next, part_of(line, word));
-    put(out, next, b" is not there yet\n")
+    put_reason(out, at, line, number, about(0, word))
 }
 
-fn put_reason(out: &mut [u8], at: usize, line: &[u8], fault: Fault) -> usize
-    requires { ⌜ at + 128 ≤ length (now out) ⌝ }
-    ensures { λ r. ⌜ r ≤ at + 128 ⌝ }
+// Puts a reason. The words are the names of operands.
+fn put_reason(out: &mut [u8], at: usize, line: &[u8], number: u64, reason: Reason) -> usize
+    requires { ⌜ at + 160 ≤ length (now out) ⌝ }
+    ensures { λ r. ⌜ r ≤ at + 160 ⌝ }
 {
+    let numbers = [
+        number,
+        reason.name,
+        0,
+        0,
+        0,
+        0,
+        0,
+        0,
+        0,
+        0,
+        0,
+        0,
+        0,
+        0,
+        0,
+        0,
+    ];
+    put_row(
+        out,
+        at,
+        160,
+        Row {
+            form: reason.form,
+            numbers,
+        },
+        b"?_line_#:_~_is_not_there_yet\n ?_line_#:_@_is_missing\n ?_line_#:_@_is_not_a_number:_`~`\n \
+        ?_line_#:_@_is_larger_than_2^64_-_1:_`~`\n ?_line_#:_START_or_any_is_missing\n \
+        ?_line_#:_copy_or_cow_is_missing\n ?_line_#:_thread_or_-_is_missing\n ?_line_#:_readable_or_unreadable_is_missing\n \
+        ?_line_#:_neither_copy_nor_cow:_`~`\n ?_line_#:_neither_thread_nor_-:_`~`\n \
+        ?_line_#:_neither_readable_nor_unreadable:_`~`\n ?_line_#:_unknown_call_`~`\n ?_line_#:_too_many_words:_`~`\n \
+        ?_line_#:_no_kind_of_region:_`~`\n ?_line_#:_BYTE_is_larger_than_255:_`~`\n ?_line_#:_HEXBYTES_are_no_bytes:_`~`\n \
+        ?_line_#:_line_longer_than_65536_bytes\n ?_line_#:_no_manager_yet\n ?_line_#:_no_machine_yet\n \
+        ?_line_#:_files_are_lent_before_the_machine_is_started\n ?_line_#:_more_than_8_files\n \
+        ?_line_#:_the_files_have_too_many_bytes\n",
+        b"START SIZE LEN AT P ADDR END FRAMES FLAGS FILE OFFSET LENGTH BYTE KIND",
+        part_of(line, reason.word),
+    )
+}
+
+fn reason_of(fault: Fault) -> Reason {
     match fault {
-        Fault::Missing(what) => put_missing(out, at, what),
-        Fault::NoNumber(what, word) => {
-            let next = put_operand(out, at, what);
-            put_with_word(out, next, b" is not a number: ", line, word)
-        }
-        Fault::TooLarge(what, word) => {
-            let next = put_operand(out, at, what);
-            put_with_word(out, next, b" is larger than 2^64 - 1: ", line, word)
-        }
-        Fault::Neither(words, word) => put_neither(out, at, words, line, word),
-        _ => put_of_word(out, at, line, fault),
+        Fault::Missing(what) => missing(what),
+        Fault::NoNumber(what, word) => Reason {
+            form: 2,
+            name: name_of(what),
+            word,
+        },
+        Fault::TooLarge(what, word) => Reason {
+            form: 3,
+            name: name_of(what),
+            word,
+        },
+        Fault::Neither(words, word) => about(8 + either_of(words), word),
+        Fault::UnknownCall(word) => about(11, word),
+        Fault::TooManyWords(word) => about(12, word),
+        Fault::NoKind(word) => about(13, word),
+        Fault::NoByte(word) => about(14, word),
+        Fault::NoBytes(word) => about(15, word),
+        Fault::LongLine => whole(16),
+        Fault::NoManager => whole(17),
+        Fault::NoMachine => whole(18),
+        Fault::FilesFirst => whole(19),
+        Fault::TooManyFiles => whole(20),
+        Fault::TooManyBytes => whole(21),
     }
 }
 
-// Puts that a word is missing.
-fn put_missing(out: &mut [u8], at: usize, what: Operand) -> usize
-    requires { ⌜ at + 128 ≤ length (now out) ⌝ }
-    ensures { λ r. ⌜ r ≤ at + 128 ⌝ }
-{
+// What is wrong with a word.
+fn about(form: u64, word: Word) -> Reason {
+    Reason {
+        form,
+        name: 0,
+        word,
+    }
+}
+
+// What is wrong with a line as a whole.
+fn whole(form: u64) -> Reason {
+    about(form, Word { from: 0, to: 0 })
+}
+
+// That a word is missing.
+fn missing(what: Operand) -> Reason {
+    let nowhere = Word { from: 0, to: 0 };
     match what {
-        Operand::Spot => put(out, at, b"START or any is missing"),
-        Operand::Either(words) => put_either(out, at, words),
-        _ => {
-            let next = put_operand(out, at, what);
-            put(out, next, b" is missing")
-        }
+        Operand::Spot => whole(4),
+        Operand::Either(words) => whole(5 + either_of(words)),
+        _ => Reason {
+            form: 1,
+            name: name_of(what),
+            word: nowhere,
+        },
     }
 }
 
-fn put_either(out: &mut [u8], at: usize, words: Either) -> usize
-    requires { ⌜ at + 128 ≤ length (now out) ⌝ }
-    ensures { λ r. ⌜ r ≤ at + 128 ⌝ }
+fn either_of(words: Either) -> u64
+    ensures { λ r. ⌜ r ≤ 2 ⌝ }
 {
     match words {
-        Either::CopyOrCow => put(out, at, b"copy or cow is missing"),
-        Either::ThreadOrDash => put(out, at, b"thread or - is missing"),
-        Either::ReadableOrUnreadable => put(out, at, b"readable or unreadable is missing"),
+        Either::CopyOrCow => 0,
+        Either::ThreadOrDash => 1,
+        Either::ReadableOrUnreadable => 2,
     }
 }
 
-// Puts what is wrong with a word.
-fn put_of_word(out: &mut [u8], at: usize, line: &[u8], fault: Fault) -> usize
-    requires { ⌜ at + 128 ≤ length (now out) ⌝ }
-    ensures { λ r. ⌜ r ≤ at + 128 ⌝ }
-{
-    match fault {
-        Fault::UnknownCall(word) => put_with_word(out, at, b"unknown call ", line, word),
-        Fault::TooManyWords(word) => put_with_word(out, at, b"too many words: ", line, word),
-        Fault::NoKind(word) => put_with_word(out, at, b"no kind of region: ", line, word),
-        Fault::NoByte(word) => put_with_word(out, at, b"BYTE is larger than 255: ", line, word),
-        Fault::NoBytes(word) => put_with_word(out, at, b"HEXBYTES are no bytes: ", line, word),
-        _ => put_of_line(out, at, fault),
-    }
-}
-
-// Puts what is wrong with a line as a whole.
-fn put_of_line(out: &mut [u8], at: usize, fault: Fault) -> usize
-    requires { ⌜ at + 128 ≤ length (now out) ⌝ }
-    ensures { λ r. ⌜ r ≤ at + 128 ⌝ }
-{
-    match fault {
-        Fault::LongLine => put(out, at, b"line longer than 65536 bytes"),
-        Fault::NoManager => put(out, at, b"no manager yet"),
-        Fault::NoMachine => put(out, at, b"no machine yet"),
-        Fault::FilesFirst => put(out, at, b"files are lent before the machine is started"),
-        Fault::TooManyFiles => put(out, at, b"more than 8 files"),
-        Fault::TooManyBytes => put(out, at, b"the files have too many bytes"),
-        _ => at,
-    }
-}
-
-fn put_operand(out: &mut [u8], at: usize, what: Operand) -> usize
-    requires { ⌜ at + 6 ≤ length (now out) ⌝ }
-    ensures { λ r. ⌜ r ≤ at + 6 ⌝ }
-{
-    let names =
-        b"START SIZE  LEN   AT    P     ADDR  END   FRAMESFLAGS FILE  OFFSETLENGTHBYTE  KIND  ";
-    put_word(out, at, names, place_of(what) * 6, 6)
-}
-
-// The place of a number's name in their table, past it where one name is not all.
-fn place_of(what: Operand) -> usize
-    ensures { λ r. ⌜ r ≤ 64 ⌝ }
-{
+// The place of an operand's name among their names, past them where one name is not all.
+fn name_of(what: Operand) -> u64 {
     match what {
         Operand::Start => 0,
         Operand::Size => 1,
@@ -140,62 +163,4 @@ fn place_of(what: Operand) -> usize
         Operand::Spot => 64,
         Operand::Either(_) => 64,
     }
-}
-
-// Puts that a word is none of the two that the call takes there.
-fn put_neither(out: &mut [u8], at: usize, words: Either, line: &[u8], word: Word) -> usize
-    requires { ⌜ at + 128 ≤ length (now out) ⌝ }
-    ensures { λ r. ⌜ r ≤ at + 128 ⌝ }
-{
-    match words {
-        Either::CopyOrCow => put_with_word(out, at, b"neither copy nor cow: ", line, word),
-        Either::ThreadOrDash => put_with_word(out, at, b"neither thread nor -: ", line, word),
-        Either::ReadableOrUnreadable => {
-            put_with_word(out, at, b"neither readable nor unreadable: ", line, word)
-        }
-    }
-}
-
-// Puts a reason and the word that it is about.
-fn put_with_word(out: &mut [u8], at: usize, reason: &[u8], line: &[u8], word: Word) -> usize
-    requires { ⌜ length (now reason) ≤ 40 ⌝ }
-    requires { ⌜ at + 88 ≤ length (now out) ⌝ }
-    ensures { λ r. ⌜ r ≤ at + 88 ⌝ }
-{
-    let next = put(out, at, reason);
-    let next = put(out, next, b"`");
-    let next = put_shown(out, next, part_of(line, word));
-    put(out, next, b"`")
-}
-
-// Puts the first 40 bytes, `?` for each that is not printable, and `..` where more follow.
-fn put_shown(out: &mut [u8], at: usize, word: &[u8]) -> usize
-    requires { ⌜ at + 42 ≤ length (now out) ⌝ }
-    ensures { λ r. ⌜ r ≤ at + 42 ⌝ }
-{
-    let n = at_most_40(word.len());
-    let mut i = 0;
-    while i < n {
-        out[at + i] = shown(word[i]);
-        i += 1;
-    }
-    if n < word.len() {
-        put(out, at + n, b"..")
-    } else {
-        at + n
-    }
-}
-
-fn at_most_40(n: usize) -> usize
-    ensures { λ r. ⌜ (r ≤ n) × (r ≤ 40) ⌝ }
-{
-    if n < 40 { n } else { 40 }
-}
-
-// A byte if it is printable, else `?`.
-fn shown(byte: u8) -> u8 {
-    if byte < 33 {
-        return b'?';
-    }
-    if byte < 127 { byte } else { b'?' }
 }

@@ -6,7 +6,7 @@ use crate::answer::put_answer;
 use crate::answer::put_count;
 use model::Done;
 use model::Listed;
-use text::put_end;
+use text::put;
 use text::put_hex_word;
 
 // Puts the answer of a list of regions.
@@ -21,7 +21,7 @@ pub fn put_starts(out: &mut [u8], at: usize, listed: Listed) -> usize
         Done::Yes => {
             let next = put_count(out, at, listed.count);
             let next = put_hexes(out, next, starts, at_most_64(listed.count));
-            put_end(out, next)
+            put(out, next, b"\n")
         }
     }
 }

@@ -10,6 +10,6 @@ pub record Kept (s : Session) (line out frames files rows : ℕ) : Type 0 where
   pub room : 4096 ≤ out
   pub lends : Lends (s .machine) frames files rows
 
--- so it does of the other, whatever the buffers
-abbrev pub Keeps : Session → Session → Type 0
-Keeps s r = (line out frames files rows : ℕ) → Kept s line out frames files rows → Kept r line out frames files rows
+-- what is read and not yet looked at lies in its buffer
+abbrev pub Reads : Session → ℕ → Type 0
+Reads s input = (s .from ≤ s .to) × (s .to ≤ input)

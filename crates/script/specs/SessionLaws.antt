@@ -1,6 +1,10 @@
 -- Laws of `Session`: what holds of a session from line to line.
-use mathlib.Core.Path.{_≡_, subst}
-use Prim.Native.Nat.{ℕ}
+use mathlib.Core.Path.{_≡_, sym, subst}
+use Prim.Native.Nat.{ℕ, _≤_}
+use native.Mathlib.Omega.{arith}
+use Rattle.text.specs.declared.lines.Held.{Held}
+use Rattle.script_step.specs.declared.machine.Machine.{Machine}
+use Rattle.script_step.specs.MachineStep.{Lends}
 use Rattle.script.specs.declared.session.Session.{Session}
 use Rattle.script.specs.Session.{Kept}
 
@@ -12,3 +16,22 @@ kept-in s l l' o o' f f' b b' r r' p q t u v k =
     (subst (λ (x : ℕ). Kept s l o x b' r') t
     (subst (λ (x : ℕ). Kept s l o f x r') u
     (subst (λ (x : ℕ). Kept s l o f b x) v k))))
+
+-- a session whose line was run and whose answer was put
+pub kept-put : (h : Held) (m : Machine) (s : Session) (line out frames files rows : ℕ) → h .len ≡ 0 → Lends m frames files rows → s .held ≡ h → s .machine ≡ m
+    → s .output .at ≤ out → 4096 ≤ out → Kept s line out frames files rows
+kept-put h m s line out frames files rows none lends p q at room =
+    record {
+      held = subst (λ (x : Held). x .len ≤ line) (sym p) (omega (arith, none));
+      at = at;
+      room = room;
+      lends = subst (λ (x : Machine). Lends x frames files rows) (sym q) lends;
+    }
+
+-- the same machine is lent the same
+pub lends-as : (m m' : Machine) (frames files rows : ℕ) → m' ≡ m → Lends m frames files rows → Lends m' frames files rows
+lends-as m m' frames files rows e l = subst (λ (x : Machine). Lends x frames files rows) (sym e) l
+
+-- what is read lies in a buffer of the same length
+pub reads-in : (from to n n' : ℕ) → n ≡ n' → (from ≤ to) × (to ≤ n) → (from ≤ to) × (to ≤ n')
+reads-in from to n n' e r = (r .0, subst (λ (x : ℕ). to ≤ x) e (r .1))

@@ -1,9 +1,8 @@
 -- How much of the state's text is left: a number that falls from line to line.
 use mathlib.Core.Path.{_≡_}
 use mathlib.Core.Bool.{false, cond}
-use Prim.Native.Nat.{ℕ, _+_, _-_, _*_, _≤_, _<_}
+use Prim.Native.Nat.{ℕ, _+_, _-_, _*_, _<_}
 use Rattle.state_text.specs.declared.cursor.Cursor.{Cursor}
-use Rattle.state_text.specs.declared.cursor.Shown.{Shown}
 
 -- places first, and of a region's place its lines: its own and up to 512 page entries
 unfoldable pub left : Cursor → ℕ
@@ -12,7 +11,3 @@ left c = cond (c .done) 0 (1 + ((2314 - c .place) * 514 + (513 - c .shown)))
 -- a place of the text
 abbrev pub Going : Cursor → Type 0
 Going c = (c .done ≡ false) × (c .place < 2314)
-
--- a line at most was put, and less is left
-abbrev pub Shows : ℕ → Cursor → Shown → Type 0
-Shows at c r = (r .at ≤ at + 4096) × (left (r .cursor) < left c)

@@ -4,6 +4,7 @@ ghost use mathlib.Core.Bool.{false};
 ghost use Prim.Native.Nat.{_<_};
 ghost use Rattle.state_text.specs.Left.{left, Going};
 use address::Page;
+use text::Row;
 
 // A place in the text of the state.
 pub struct Cursor {
@@ -19,6 +20,12 @@ pub struct Cursor {
     pub start: u64,
     // Whether the text has ended.
     pub done: bool,
+}
+
+// A line of the text, and what comes next.
+pub struct Line {
+    pub row: Row,
+    pub cursor: Cursor,
 }
 
 // Where the text put so far ends, and what comes next.

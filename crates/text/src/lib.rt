@@ -1,10 +1,12 @@
-// The base of a script's text: lines out of chunks of input, words and numbers out of a line, bytes and numbers as text.
+// The base of a script's text: lines out of chunks of input, words and numbers out of a line, bytes, numbers and forms as text.
+mod form;
 mod lines;
 mod number;
-mod piece;
 mod words;
 mod write;
 
+pub use form::Row;
+pub use form::put_row;
 pub use lines::Held;
 pub use lines::gather;
 pub use lines::line_end;
@@ -12,11 +14,6 @@ pub use lines::without_return;
 pub use number::Number;
 pub use number::digit;
 pub use number::read_number;
-pub use piece::put_decimal_word;
-pub use piece::put_end;
-pub use piece::put_hex_word;
-pub use piece::put_with_decimal;
-pub use piece::put_word;
 pub use words::Word;
 pub use words::next_word;
 pub use words::part_of;
@@ -24,3 +21,4 @@ pub use words::word_end;
 pub use write::put;
 pub use write::put_decimal;
 pub use write::put_hex;
+pub use write::put_hex_word;

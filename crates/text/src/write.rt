@@ -31,3 +31,12 @@ pub fn put_hex(out: &mut [u8], at: usize, n: u64) -> usize
     let next = put(out, at, b"0x");
     put(out, next, &digits[..k])
 }
+
+// Puts a blank and a number in hexadecimal.
+pub fn put_hex_word(out: &mut [u8], at: usize, n: u64) -> usize
+    requires { ⌜ at + 19 ≤ length (now out) ⌝ }
+    ensures { λ r. ⌜ r ≤ at + 19 ⌝ }
+{
+    let next = put(out, at, b" ");
+    put_hex(out, next, n)
+}

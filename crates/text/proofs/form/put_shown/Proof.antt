@@ -1,10 +1,10 @@
--- `fault::put_shown` meets its contract. The invariant: the buffer keeps its length.
+-- `form::put_shown` meets its contract. The invariant: the buffer keeps its length.
 use mathlib.Core.Path.{_≡_}
 use Prim.Native.Nat.{_-_, _≤_}
 use lib.ListN.{length}
 use borrow.Author.Needs.{needs}
-use Rattle.answer_text.proofs.bad_line.put_shown.Statement.{statement}
-use Rattle.answer_text.proofs.bad_line.put_shown.Tie as tie
+use Rattle.text.proofs.form.put_shown.Statement.{statement}
+use Rattle.text.proofs.form.put_shown.Tie as tie
 
 abbrev Inv-loop : tie.InvT-loop
 Inv-loop out₀ at word n i₀ t6 out i = (i ≤ n) × (length out ≡ length out₀)
@@ -18,11 +18,11 @@ at-most-40-requires c κs = search needs
 loop-holds : tie.Need-loop-holds Inv-loop μ-loop
 loop-holds c = search needs
 
-shared-slice-read-shown : tie.Need-shared-slice-read-shown Inv-loop μ-loop
-shared-slice-read-shown c = search needs
+shared-slice-read-printable : tie.Need-shared-slice-read-printable Inv-loop μ-loop
+shared-slice-read-printable c = search needs
 
-shown-requires : tie.Need-shown-requires Inv-loop μ-loop
-shown-requires c κs = search needs
+printable-requires : tie.Need-printable-requires Inv-loop μ-loop
+printable-requires c κs = search needs
 
 add-out : tie.Need-add-out Inv-loop μ-loop
 add-out c = search needs
@@ -71,8 +71,8 @@ put-shown-spec =
     μ-loop
     at-most-40-requires
     loop-holds
-    shared-slice-read-shown
-    shown-requires
+    shared-slice-read-printable
+    printable-requires
     add-out
     slice-write-out
     add-i
