@@ -23,7 +23,8 @@ use Rattle.model.specs.Create.{one}
 use Rattle.model.specs.Sound.{Used, Hold, holdersOf}
 use Rattle.laws.specs.SetLaws.{row-there}
 use Rattle.keeping.specs.Owing.{Owing, Backs, Holds, rowAt, entryAt, nothing}
-use Rattle.model.specs.HolderLaws.{entryHold, rangeHold, weight, entryTaken, rangeTaken, oneIf, weight-free, weight-taken}
+use Rattle.model.specs.HolderLaws.{weight-free, weight-taken}
+use Rattle.model.specs.Holders.{entryHold, rangeHold, weight, entryTaken, rangeTaken, oneIf}
 use Rattle.keeping.specs.BacksLaws.{source-of, entry-found}
 use Rattle.keeping.specs.ViewLaws.{held-some}
 use Rattle.keeping.specs.EntriesKept.{entryOn, entry-counts}

@@ -21,7 +21,7 @@ use Rattle.laws.specs.InListsLaws.{few-below}
 use Rattle.laws.specs.ListsLaws.{part-at, part-length}
 use Rattle.model.specs.FoundRowLaws.{first-found}
 use Rattle.keeping.specs.Owing.{rowAt, Owing, Holds}
-use Rattle.model.specs.HolderLaws.{rangeHold}
+use Rattle.model.specs.Holders.{rangeHold}
 use Rattle.keeping.specs.OwingLaws.{open-low, listed-row, slot-pinned}
 use Rattle.keeping.specs.AlikeLaws.{limits-pins}
 use Rattle.keeping.specs.SlotsKept.{owes, slot-put}

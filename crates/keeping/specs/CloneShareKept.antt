@@ -28,7 +28,7 @@ use Rattle.model.specs.MachineLaws.{mapped-put, order-mapped}
 use Rattle.model.specs.MappedBelowLaws.{length-remap}
 use Rattle.laws.specs.In.{In}
 use Rattle.keeping.specs.Owing.{rowAt, entryAt, Backs, Placed, Owing, Holds}
-use Rattle.model.specs.HolderLaws.{rangeHold}
+use Rattle.model.specs.Holders.{rangeHold}
 use Rattle.keeping.specs.OwingLaws.{open-low, listed-open, home-one, unowned}
 use Rattle.keeping.specs.AlikeLaws.{limits-pins, limits-as, placed-with, alike-same}
 use Rattle.keeping.specs.MappedKept.{opened-same}

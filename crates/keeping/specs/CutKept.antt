@@ -26,7 +26,8 @@ use Rattle.model.specs.Sound.{Used, Apart, Flagged, RegionFits, Limits, EntryFi
 use Rattle.laws.specs.BoolLaws.{both-true}
 use Rattle.laws.specs.In.{In}
 use Rattle.keeping.specs.Owing.{rowAt, entryAt, Backs, Placed, Owing, Holds, EntryHolds, RangeHolds}
-use Rattle.model.specs.HolderLaws.{entryHold, rangeHold, oneIf, weight, holding-put, entryTaken, rangeTaken, entriesHold, holders-split, holding-cons, weight-taken, weight-unranged, weight-unused}
+use Rattle.model.specs.HolderLaws.{holding-put, holders-split, holding-cons, weight-taken, weight-unranged, weight-unused}
+use Rattle.model.specs.Holders.{entryHold, rangeHold, oneIf, weight, entryTaken, rangeTaken, entriesHold}
 use Rattle.keeping.specs.OwingLaws.{open-low, listed-open, listed-row, apart-turn, unowned}
 use Rattle.keeping.specs.AlikeLaws.{fits-as, pool-as, sizes-as, by-entry-as}
 

@@ -19,7 +19,8 @@ use Rattle.laws.specs.SetLaws.{each-row}
 use Rattle.laws.specs.In.{In}
 use Rattle.model.specs.FoundRowLaws.{first-found}
 use Rattle.keeping.specs.Owing.{rowAt, entryAt, Backs, Placed, Owing, Holds, Agree}
-use Rattle.model.specs.HolderLaws.{entryHold, oneIf, weight, holding-put, entryTaken, holders-split, weight-free, weight-taken}
+use Rattle.model.specs.HolderLaws.{holding-put, holders-split, weight-free, weight-taken}
+use Rattle.model.specs.Holders.{entryHold, oneIf, weight, entryTaken}
 use Rattle.keeping.specs.OwingLaws.{taken-there}
 use Rattle.keeping.specs.ViewLaws.{agree-more}
 use Rattle.keeping.specs.AlikeLaws.{alike-same, fits-as, entry-as, pool-as, sizes-as, by-entry-as}

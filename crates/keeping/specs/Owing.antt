@@ -19,6 +19,7 @@ use Rattle.model.specs.Backing.{backingAt}
 use Rattle.laws.specs.Tests.{Rows}
 use Rattle.model.specs.Sound.{Used, Apart, R2, Hold, Flagged, RegionFits, EntryFits, Paged, FileFits, holdersOf}
 use Rattle.laws.specs.In.{In, Once}
+use Rattle.model.specs.Holders.{entryHold, rangeHold}
 
 -- rows by number, a free one past the end
 abbrev pub rowAt : Machine → ℕ → Region

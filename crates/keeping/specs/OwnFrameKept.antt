@@ -26,7 +26,7 @@ use Rattle.model.specs.MappedBelowLaws.{length-map}
 use Rattle.laws.specs.SetLaws.{each-row}
 use Rattle.laws.specs.In.{In}
 use Rattle.keeping.specs.Owing.{rowAt, entryAt, Placed, Owing, Holds}
-use Rattle.model.specs.HolderLaws.{entryHold}
+use Rattle.model.specs.Holders.{entryHold}
 use Rattle.keeping.specs.OwingLaws.{open-low, taken-there, listed-open}
 use Rattle.keeping.specs.BacksLaws.{entry-of, none-of}
 use Rattle.keeping.specs.MappedKept.{mapped-kept, mapped-again}

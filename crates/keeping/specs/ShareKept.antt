@@ -22,7 +22,8 @@ use Rattle.model.specs.Clone.{Held, shareEntry}
 use Rattle.model.specs.Sound.{Used, Flagged, Hold, holdersOf, Apart}
 use Rattle.laws.specs.In.{In}
 use Rattle.keeping.specs.Owing.{rowAt, entryAt, Backs, Placed, Owing, Holds}
-use Rattle.model.specs.HolderLaws.{entryHold, rangeHold, oneIf, weight, rangeTaken, weight-free, weight-taken, weight-ranged}
+use Rattle.model.specs.HolderLaws.{weight-free, weight-taken, weight-ranged}
+use Rattle.model.specs.Holders.{entryHold, rangeHold, oneIf, weight, rangeTaken}
 use Rattle.keeping.specs.OwingLaws.{taken-there, used-there, apart-alone}
 use Rattle.keeping.specs.ViewLaws.{held-some}
 use Rattle.keeping.specs.BackingsKept.{more, backing-there, hold-kept}

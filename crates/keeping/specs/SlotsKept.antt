@@ -16,7 +16,8 @@ use Rattle.model.specs.Sound.{Used, Apart, Flagged, RegionFits, Hold, holdersOf
 use Rattle.laws.specs.SetLaws.{each-row}
 use Rattle.laws.specs.In.{In}
 use Rattle.keeping.specs.Owing.{rowAt, entryAt, Placed, Owing, Holds, Agree, Unlisted}
-use Rattle.model.specs.HolderLaws.{rangeHold, oneIf, weight, holding-put, rangeTaken, holders-split, weight-ranged, weight-unranged, weight-unused}
+use Rattle.model.specs.HolderLaws.{holding-put, holders-split, weight-ranged, weight-unranged, weight-unused}
+use Rattle.model.specs.Holders.{rangeHold, oneIf, weight, rangeTaken}
 use Rattle.keeping.specs.OwingLaws.{used-there, apart-turn}
 use Rattle.keeping.specs.ViewLaws.{agree-more}
 use Rattle.keeping.specs.AlikeLaws.{alike-is, fits-as, entry-as, placed-as, pool-as, Alike, sizes-as}

@@ -22,7 +22,7 @@ use Rattle.laws.specs.In.{In, Once}
 use Rattle.laws.specs.InLaws.{in-at, in-row, in-left, in-right, in-either, in-map, map-in}
 use Rattle.laws.specs.InListsLaws.{in-keep, keep-in, keep-none}
 use Rattle.keeping.specs.Owing.{EntryHolds, RangeHolds, Holds, rowAt, entryAt, Agree}
-use Rattle.model.specs.HolderLaws.{entryHold, rangeHold, entryTaken, rangeTaken}
+use Rattle.model.specs.Holders.{entryHold, rangeHold, entryTaken, rangeTaken}
 use Rattle.keeping.specs.OwingLaws.{taken-there, used-there}
 
 -- ---- the one of a list

@@ -1,9 +1,9 @@
--- Holders counted over the rows of a table, and counted again once a row is another.
+-- Holders counted row by row, and counted again once a row is another.
 use mathlib.Core.Path.{_≡_, refl, ap, _∙_}
 use mathlib.Core.Logic.{_≢_}
 use mathlib.Core.Bool.{Bool, true, false, _&&_, not, cond}
 use mathlib.Core.List.{List, [], _∷_, map}
-use Prim.Native.Nat.{ℕ, zero, suc, _+_, _<_, _-_, _/_}
+use Prim.Native.Nat.{ℕ, zero, suc, _+_, _<_, _-_}
 use native.Mathlib.Nat.{le-of-suc-le-suc, not-suc-le-zero}
 use native.Mathlib.Omega.{arith}
 use lib.ListN.{length, getD, set}
@@ -13,39 +13,27 @@ use Rattle.model.specs.declared.Entry.{Entry}
 use Rattle.model.specs.declared.Region.{Region}
 use Rattle.laws.specs.Lists.{keep, count}
 use Rattle.model.specs.Machine.{Machine}
-use Rattle.model.specs.Lookup.{isUsed, isRanged, isShared}
 use Rattle.model.specs.Sound.{Hold, holds, entryHolds, rangeHolds, holdersOf, Used}
 use Rattle.laws.specs.CountLaws.{count-append}
-use Rattle.model.specs.Create.{one}
-
-abbrev pub oneIf : Bool → ℕ
-oneIf b = cond b 1 0
+use Rattle.model.specs.Holders.{oneIf, holding, weight, entryTaken, entryHold, rangeTaken, rangeHold, entriesHold, rangesHold}
 
 -- rows that hold where u says so, each as g says
 module _ {A : Type 0} (u : A → Bool) (g : A → Hold) (f : ℕ) where
-  -- how many of them hold the backing at f
-  abbrev pub holding : List A → ℕ
-  holding l = count (λ h. eqb (h .frame) f) (map g (keep u l))
-
-  -- what a row adds
-  abbrev pub weight : A → ℕ
-  weight x = cond (u x) (oneIf (eqb (g x .frame) f)) 0
-
   -- row by row
-  pub holding-cons : (x : A) (l : List A) → holding (x ∷ l) ≡ weight x + holding l
+  pub holding-cons : (x : A) (l : List A) → holding u g f (x ∷ l) ≡ weight u g f x + holding u g f l
   unfolding count keep
   holding-cons x l = go (u x)
     where
-      counted : (b : Bool) → cond b (holding l + 1) (holding l) ≡ oneIf b + holding l
+      counted : (b : Bool) → cond b (holding u g f l + 1) (holding u g f l) ≡ oneIf b + holding u g f l
       counted true = omega arith
       counted false = omega arith
 
-      go : (b : Bool) → count (λ h. eqb (h .frame) f) (map g (cond b (x ∷ keep u l) (keep u l))) ≡ cond b (oneIf (eqb (g x .frame) f)) 0 + holding l
+      go : (b : Bool) → count (λ h. eqb (h .frame) f) (map g (cond b (x ∷ keep u l) (keep u l))) ≡ cond b (oneIf (eqb (g x .frame) f)) 0 + holding u g f l
       go true = counted (eqb (g x .frame) f)
       go false = omega arith
 
   -- a row is another: what it added goes, what the other adds comes
-  pub holding-put : (d : A) (l : List A) (i : ℕ) (x : A) → i < length l → holding (set l i x) + weight (getD l i d) ≡ holding l + weight x
+  pub holding-put : (d : A) (l : List A) (i : ℕ) (x : A) → i < length l → holding u g f (set l i x) + weight u g f (getD l i d) ≡ holding u g f l + weight u g f x
   holding-put d [] i x h = absurd (not-suc-le-zero h)
   holding-put d (y ∷ l) zero x h = let was = holding-cons y l in let is = holding-cons x l in omega arith
   holding-put d (y ∷ l) (suc i) x h =
@@ -53,29 +41,6 @@ module _ {A : Type 0} (u : A → Bool) (g : A → Hold) (f : ℕ) where
       let is = holding-cons y (set l i x) in
       let rest = holding-put d l i x (le-of-suc-le-suc h) in
       omega arith
-
--- the rows that hold: entries in use
-abbrev pub entryTaken : Entry → Bool
-entryTaken e = not (eqb (e .owner) 0)
-
--- .. and regions with a range
-abbrev pub rangeTaken : Region → Bool
-rangeTaken r = isUsed r && isRanged r
-
--- ---- the holds of a machine
-
--- the hold of an entry, of a range
-abbrev pub entryHold : Entry → Hold
-entryHold e = record { frame = e .frame .0; page = e .page .0; shared = 0 }
-
-abbrev pub entriesHold : List Entry → ℕ → ℕ
-entriesHold l f = holding entryTaken entryHold f l
-
-abbrev pub rangeHold : Region → Hold
-rangeHold r = record { frame = r .range .0; page = r .start .0 / 4096; shared = one (isShared r) }
-
-abbrev pub rangesHold : List Region → ℕ → ℕ
-rangesHold l f = holding rangeTaken rangeHold f l
 
 -- the holders of a backing are its entries and its ranges
 pub holders-split : (m : Machine) (f : ℕ) → holdersOf m f ≡ entriesHold (m .entries) f + rangesHold (m .regions) f

@@ -9,8 +9,7 @@ use Rattle.laws.specs.BoolLaws.{both-true}
 use Rattle.model.specs.Answers.{Reply}
 use Rattle.model.specs.Run.{call}
 use Rattle.segments.specs.Run as managers
-use Rattle.model.specs.PointTable.{Event, does, sees, manages, World, Holds, ends, called, seen, managing, held, look, sameList, sameReply, holdsb}
-use Rattle.model.specs.HolderLaws.{holding}
+use Rattle.model.specs.PointTable.{Event, does, sees, manages, holding, World, Holds, ends, called, seen, managing, held, look, sameList, sameReply, holdsb}
 
 pub list-told : (l m : List ℕ) → sameList l m ≡ true → l ≡ m
 unfolding sameList

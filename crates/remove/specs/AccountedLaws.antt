@@ -21,7 +21,8 @@ use Rattle.model.specs.Backing.{backingAt, withBackings, letGo}
 use Rattle.model.specs.Sound.{Sound, R2, holds, holdersOf}
 use Rattle.backing.specs.Ready.{Ready}
 use Rattle.backing.specs.BackingLaws.{sound-ready, used-low}
-use Rattle.model.specs.HolderLaws.{oneIf, entryTaken, entryHold, rangeTaken, rangeHold, entriesHold, rangesHold, holders-split}
+use Rattle.model.specs.HolderLaws.{holders-split}
+use Rattle.model.specs.Holders.{oneIf, entryTaken, entryHold, rangeTaken, rangeHold, entriesHold, rangesHold}
 use Rattle.remove.specs.HoldingLaws.{Holder, holding-some}
 use Rattle.remove.specs.Accounted.{FreeUnranged, Accounted}
 

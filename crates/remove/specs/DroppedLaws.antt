@@ -22,7 +22,8 @@ use Rattle.model.specs.Layout.{machine}
 use Rattle.backing.specs.BackingLaws.{release-is, release-ready, used-low}
 use Rattle.backing.specs.BackingSteps.{released}
 use Rattle.lookup.specs.LookupsLaws.{entries-length}
-use Rattle.model.specs.HolderLaws.{oneIf, weight, entryTaken, entryHold, rangesHold, holders-split}
+use Rattle.model.specs.HolderLaws.{holders-split}
+use Rattle.model.specs.Holders.{oneIf, weight, entryTaken, entryHold, rangesHold}
 use Rattle.remove.specs.HoldingLaws.{holding-set}
 use Rattle.remove.specs.Accounted.{FreeUnranged, Accounted}
 use Rattle.remove.specs.AccountedLaws.{ready-same, let-go-is, given-used, given-held}

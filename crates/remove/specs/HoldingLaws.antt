@@ -10,7 +10,8 @@ use lib.Dec.{eqb}
 use borrow.Author.Tests.{eqb-true}
 use Rattle.laws.specs.Lists.{keep, count}
 use Rattle.model.specs.Sound.{Hold}
-use Rattle.model.specs.HolderLaws.{oneIf, holding, weight, holding-cons}
+use Rattle.model.specs.HolderLaws.{holding-cons}
+use Rattle.model.specs.Holders.{oneIf, holding, weight}
 
 -- rows that hold where u says so, each as g says; d is a free row
 module _ {A : Type 0} (u : A → Bool) (g : A → Hold) (f : ℕ) where

@@ -19,7 +19,8 @@ use Rattle.model.specs.Sound.{holdersOf}
 use Rattle.model.specs.Remove.{framesOf, dropRegion}
 use Rattle.model.specs.MachineLaws.{books-let-go}
 use Rattle.backing.specs.BackingLaws.{release-ready}
-use Rattle.model.specs.HolderLaws.{oneIf, weight, rangeTaken, rangeHold, entriesHold, rangesHold, holders-split}
+use Rattle.model.specs.HolderLaws.{holders-split}
+use Rattle.model.specs.Holders.{oneIf, weight, rangeTaken, rangeHold, entriesHold, rangesHold}
 use Rattle.remove.specs.HoldingLaws.{holding-set}
 use Rattle.remove.specs.Accounted.{FreeUnranged, Accounted}
 use Rattle.remove.specs.AccountedLaws.{ready-same, given-used, given-held}

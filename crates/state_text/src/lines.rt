@@ -59,7 +59,13 @@ pub fn process_row(process: u64, of: Process) -> Row {
 
 // The line of a page entry.
 pub fn entry_row(process: u64, entry: Entry, holders: u64) -> Row {
-    row(3, process, entry.page.start_address().0, entry.frame.0, holders)
+    row(
+        3,
+        process,
+        entry.page.start_address().0,
+        entry.frame.0,
+        holders,
+    )
 }
 
 // The line of a mapped page.

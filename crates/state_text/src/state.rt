@@ -17,6 +17,7 @@ use crate::places::passed;
 use crate::places::place_of;
 use crate::sums::is_in_use;
 use crate::sums::sum_of;
+use model::FRAME_BYTES;
 use rows::WORD_COUNT;
 use rows::backings::frame_count;
 use rows::backings::pool;
@@ -80,8 +81,8 @@ fn frame_line(words: &[u64], frames: &[u8], frame: usize, cursor: Cursor) -> Lin
     if !is_in_use(words, frame) {
         return passed(no_row(), cursor);
     }
-    let from = frame * 4096;
-    let to = from + 4096;
+    let from = frame * FRAME_BYTES;
+    let to = from + FRAME_BYTES;
     if frames.len() < to {
         return passed(no_row(), cursor);
     }
