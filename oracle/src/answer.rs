@@ -1,8 +1,8 @@
-//! What a call answers: values, a refusal of document 01, or a panic of the Rust.
+//! What a call answers: values, a refusal of the rules (RULES E), or a panic of the Rust.
 
 use std::fmt;
 
-/// The refusals of document 01 with their numbers.
+/// The refusals of the rules (RULES E) with their numbers.
 #[derive(Clone, Copy, Debug, PartialEq, Eq, PartialOrd, Ord)]
 #[repr(u8)]
 pub enum Refusal {

@@ -1,4 +1,4 @@
-//! The rules R1 to R6 of document 01 over a machine's state, read anew from the paper: nothing here
+//! The rules R1 to R6 over a machine's state, read anew from docs/RULES.md: nothing here
 //! knows how a call works.
 
 use std::collections::BTreeMap;

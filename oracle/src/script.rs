@@ -15,7 +15,7 @@ pub struct Script {
 }
 
 impl Script {
-    /// An unguarded script hands even what document 01 refuses to the Rust.
+    /// An unguarded script hands even what the rules refuse to the Rust.
     #[must_use]
     pub fn new(guarded: bool) -> Self {
         Self {

@@ -16,7 +16,7 @@ pub record Canonical (a : ℕ) : Type 0 where
 unfoldable pub canonical : ℕ → Bool
 canonical a = ltb a (2 ^ 47) || leb (2 ^ 64 - 2 ^ 47) a
 
--- document 01, "Numbers": "User addresses are below 2^47"
+-- user addresses are below 2^47 (RULES N10)
 abbrev pub user : ℕ → Bool
 user a = ltb a (2 ^ 47)
 

@@ -42,7 +42,7 @@ checkedFlags n = cond (goodFlags n) (Good (record { 0 = n })) Bad
 unfoldable pub readOnly : ℕ → ℕ
 readOnly f = f - bit f writable * 2
 
--- document 01, BadFlags: "PRESENT missing, or a bit outside the four"
+-- RULES E5, BadFlags: PRESENT missing, or a bit outside the four
 pub record GoodFlags (n : ℕ) : Type 0 where
   pub isPresent : bit n present ≡ 1
   pub ofFour : (i : ℕ) → bit n i ≡ 1 → (i ≡ present) ⊎ ((i ≡ writable) ⊎ ((i ≡ userAccessible) ⊎ (i ≡ noExecute)))

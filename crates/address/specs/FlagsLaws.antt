@@ -87,7 +87,7 @@ module _ (n : ℕ) (fits : n < 2 ^ 64) where
       clear j h (inl z) = z
       clear j h (inr o) = absurd (outside (3 + j) (omega arith) (omega arith) (g .ofFour (3 + j) o))
 
-  -- document 01's good flags, said over bits, are what the test tells
+  -- good flags (RULES E5), said over bits, are what the test tells
   pub good-flags-tells : Tells (goodFlags n) (GoodFlags n)
   unfolding goodFlags
   good-flags-tells = tells-of (goodFlags n) made kept

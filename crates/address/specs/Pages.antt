@@ -3,7 +3,7 @@ use mathlib.Core.Bool.{Bool}
 use Prim.Native.Nat.{ℕ, _+_, _*_, _/_, _%_, _^_}
 use lib.Dec.{eqb}
 
--- document 01, "Numbers": "A page is 4,096 bytes"; the page or frame that holds a byte
+-- a page is 4,096 bytes (RULES N1); the page or frame that holds a byte
 abbrev pub pageOf : ℕ → ℕ
 pageOf a = a / 4096
 

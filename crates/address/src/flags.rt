@@ -1,4 +1,4 @@
-// The page table flags that document 01 names, and no others.
+// The four page table flags (RULES F1), and no others.
 ghost use mathlib.Core.Path.{_≡_};
 ghost use Rattle.address.specs.Bits.{has};
 ghost use Rattle.address.specs.Flags.{Contains, Without, checkedFlags, readOnly, present, writable, userAccessible, noExecute};

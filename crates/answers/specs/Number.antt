@@ -1,4 +1,4 @@
--- Document 01, "Answer numbers": the number of each refusal.
+-- RULES E1 to E22: the number of each refusal.
 use Prim.Native.Nat.{ℕ}
 use Rattle.answers.specs.declared.Refusal.{Refusal}
 use Rattle.answers.specs.declared.Refusal.the-variants.{BadTable, NoProcess, BadAddress, BadRange, BadFlags, NoFile, NoRegion, NoSpace, SegmentReserved, InvalidSplitPoint, NotReserved, NotAccessible, NotWritable, OutOfMemory, ReadFailed, MapFailed, UnsupportedRegion, EagerBacking, Shared, InUse, TableFull, Denied}

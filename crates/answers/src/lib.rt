@@ -1,8 +1,8 @@
-// The refusals of document 01, one name for each number.
+// The refusals of the rules (RULES E), one name for each number.
 ghost use mathlib.Core.Path.{_≡_};
 ghost use Rattle.answers.specs.Number.{numberOf};
 
-// Why a call refused. Document 01, "Answer numbers", in its order.
+// Why a call refused. RULES E1 to E22, in their order.
 pub enum Refusal {
     BadTable,
     NoProcess,
@@ -29,7 +29,7 @@ pub enum Refusal {
 }
 
 impl Refusal {
-    // Document 01's number of this refusal, 1 to 22.
+    // The number of this refusal, 1 to 22 (RULES E).
     pub fn number(self) -> u64
         ensures { λ r. ⌜ r ≡ numberOf self ⌝ }
     {

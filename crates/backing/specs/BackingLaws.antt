@@ -99,7 +99,7 @@ module _ (m : Machine) (ready : Ready m) where
   unfolding lowestFit lowestRun
   fit-is n = rw framed-length
 
-  -- "a run is the lowest that fits": its frames are free
+  -- a run is the lowest that fits (RULES C7): its frames are free
   pub run-free : (n f : ℕ) → lowestRun m n ≡ At f → FreeRun m f n
   run-free n f e =
       let found = fit-run (framed m) n f (fit-is n ∙ e) in

@@ -19,7 +19,7 @@ use Rattle.backing.specs.BackingSteps.{inRun, freeAbove, lowestFree, tak
 use Rattle.backing.specs.CoveredLaws.{tells-covers, covers-row, covers-kept, covers-more, covers-drop}
 use Rattle.backing.specs.FreeRunLaws.{in-run, first-most, first-passes, keep-skip, few-many, count-split, given-first}
 
--- "the pool's free frames are those in no backing"
+-- the pool's free frames are those in no backing (RULES R2)
 pub record Right (q : Pool) (n : ℕ) (l : List Backing) : Type 0 where
   pub free : q .free ≡ length (freeFrames n l)
   pub next : q .next .0 ≡ first n (freeFrames n l)

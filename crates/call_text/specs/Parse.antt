@@ -19,7 +19,7 @@ use Rattle.call_text.specs.CreateLine.{createIn}
 use Rattle.call_text.specs.FileLine.{fileIn}
 use Rattle.call_text.specs.Plain.{plainIn, storeIn}
 
--- the calls of document 01 that the program does not have yet
+-- the calls of the rules that the program does not have yet
 unfoldable pub otherName : List ℕ → Name
 otherName word =
     cond (ltb (placeIn (codes "remove clear carve fault populate eager clone_region clone protect pin unpin") 11 word) 11) name.NotYet name.Unknown

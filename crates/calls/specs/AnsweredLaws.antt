@@ -61,7 +61,7 @@ module _ {A : Type 0} (refusal : Refusal → A) (call : State → After A) (refu
       go true y p q = q
       go false y p q = absurd (false≢true p)
 
-  -- "lent machine breaks R1 to R6", or is none
+  -- the lent machine breaks R1 to R6 (RULES E1), or is none
   pub bad-table : refusal BadTable ≡ answerOn refusal call w f b
   unfolding answerOn
   bad-table = go (eqb (length w) wordCount) refl

@@ -1,4 +1,4 @@
-// The public calls on a machine in lent memory: each takes any words, frames and files, tests them first, and answers by document 01.
+// The public calls on a machine in lent memory: each takes any words, frames and files, tests them first, and answers by the rules (RULES D1).
 mod creation;
 mod load_store;
 mod look;

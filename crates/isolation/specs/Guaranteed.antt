@@ -102,6 +102,6 @@ guarantee s sound = record {
   eagerFork = eager-fork-owns s sound;
 }
 
--- "From an empty machine, after any sequence of document 01's calls, refused ones included"
+-- RULES D3, whole: from an empty machine, after any sequence of calls, refused ones included
 pub demand3 : Demand3Whole
 demand3 lent files done l = let started = start-sound lent files done in guarantee (run l _) (run-kept l _ started)

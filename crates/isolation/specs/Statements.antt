@@ -127,7 +127,7 @@ ViewStays s = (x : Call) (q c : ℕ) → PrivateAt s q c → (touches q c s x &&
 abbrev pub ViewStaysLong : State → Type 0
 ViewStaysLong s = (l : List Call) (q c : ℕ) → PrivateAt s q c → Untouched q c l s → Stays s (run l s) q c
 
--- document 01: files are "lent with their bytes and never changed": by no call at all
+-- RULES N7: files are lent with their bytes and never changed, by no call at all
 abbrev pub FilesStay : State → Type 0
 FilesStay s = (l : List Call) → run l s .bytes ≡ s .bytes
 
@@ -171,7 +171,7 @@ BackedReads s =
     (p a b slot f : ℕ) → regionFor (s .machine) p a ≡ At slot → Readable (regionAt (s .machine) p slot) → frameAt s p a ≡ At f → noRoom (s .machine) p ≡ false → view s p a ≡ At b
     → (calls.fault s p a false .answer ≡ Yes) × (calls.load (calls.fault s p a false .state) p a .answer ≡ Loaded.Byte b)
 
--- ---- document 01: "CopyEager copies each backed page"
+-- ---- RULES K3: a CopyEager region has each of its backed pages copied
 
 -- a page with a frame of its own: held by an entry, by one holder, counted afresh too, and no other page's
 pub record OwnPage (m : Machine) (q slot pg : ℕ) : Type 0 where
@@ -213,7 +213,7 @@ EagerForkOwns s =
 -- ---- the whole
 
 pub record Guarantee (s : State) : Type 0 where
-  -- R1 to R6 of document 01
+  -- RULES R1 to R6
   pub rules : Sound s
   -- "every holder count equals the holders counted afresh; no frame lies in two backings; a private page mapped writable has exactly one holder."
   pub books : Demand3 (s .machine)
@@ -237,6 +237,6 @@ pub record Guarantee (s : State) : Type 0 where
   pub eager : EagerCloneOwns s
   pub eagerFork : EagerForkOwns s
 
--- "From an empty machine, after any sequence of document 01's calls, refused ones included": whatever memory and files are lent, if start accepts them
+-- RULES D3: from an empty machine, after any sequence of calls, refused ones included: whatever memory and files are lent, if start accepts them
 abbrev pub Demand3Whole : Type 0
 Demand3Whole = (lent : State) (files : List File) → calls.start lent files .answer ≡ Yes → (l : List Call) → Guarantee (run l (calls.start lent files .state))

@@ -36,7 +36,7 @@ tells-entry row page e = tells-both (tells-eq _ _) (tells-eq _ _)
 free-none : (row page : ℕ) → entryOf row page noEntry ≡ false
 free-none row page = not-told (tells-entry row page noEntry) (λ p. let h = p .0 in omega arith)
 
--- "the page entry if any, else the range"
+-- the page entry if any, else the range (RULES B1)
 abbrev byRange : Machine → ℕ → ℕ → ℕ → backed.Backed
 byRange m p s page =
     cond (isRanged (regionAt m p s) && ltb (page - regionAt m p s .start .0 / 4096) (backingAt m (regionAt m p s .range .0) .len))

@@ -12,7 +12,7 @@ use Rattle.model.specs.Layout.{machine}
 use Rattle.model.specs.EmptyLaws.{start-sound}
 use Rattle.keeping.specs.CallsKept.{run-kept}
 
--- "From an empty machine, after any sequence of document 01's calls, refused ones included" (demand 3): s is any words read as a machine, any
+-- RULES D3, from an empty machine, after any sequence of calls, refused ones included: s is any words read as a machine, any
 -- frames and any file bytes, sound or not. Once start has answered Yes on it, R1 to R6 hold after every list of calls, the empty one too.
 pub reached : (s : State) (files : List File) → calls.start s files .answer ≡ Yes → (l : List Call) → Sound (run l (calls.start s files .state))
 reached s files started l = run-kept l (calls.start s files .state) (start-sound s files started)

@@ -23,7 +23,7 @@ use Rattle.lookup.specs.LookupsLaws.{entries-length, backings-length}
 use Rattle.model.specs.FoundRowLaws.{first-found}
 use Rattle.lookup.specs.Backed.{byEntry, pagesPast, byRange, elseBy}
 
--- "the page entry if any, else the range"
+-- the page entry if any, else the range (RULES B1)
 module _ (m : Machine) (p s page : ℕ) where
   backing-is : elseBy (byEntry m (entryFor m (rowOf p s) page)) (byRange m (regionAt m p s) page) ≡ backing m p s page
   unfolding backing

@@ -1,4 +1,4 @@
--- What an exported call returns and writes: document 01's number and values; where `out` is of another length, 1 and nothing written.
+-- What an exported call returns and writes: number and values (RULES O1); where `out` is of another length, 1 and nothing written.
 use mathlib.Core.Path.{_≡_}
 use mathlib.Core.List.{List}
 use Prim.Native.Nat.{ℕ}

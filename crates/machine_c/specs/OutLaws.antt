@@ -1,4 +1,4 @@
--- Laws of `Out`: what an exported call returns and writes: document 01's number and values; where `out` is of another length, 1 and nothing written.
+-- Laws of `Out`: what an exported call returns and writes: number and values (RULES E, O1); where `out` is of another length, 1 and nothing written.
 use mathlib.Core.Path.{_≡_, refl, ap, subst, _∙_}
 use mathlib.Core.List.{List, [], _∷_}
 use Prim.Native.Nat.{ℕ}

@@ -1,5 +1,5 @@
 // The machine for C and Rust programs, on memory that the caller lends (include/machine.h): 11,844 words, the frames' bytes, the
-// files' bytes. Each call answers 0, or document 01's number of a refusal, and sets all of `out`; where `out` has another length it
+// files' bytes. Each call answers 0, or the number of a refusal (RULES E), and sets all of `out`; where `out` has another length it
 // answers 1, BadTable, and changes nothing.
 ghost use mathlib.Core.Path.{_≡_};
 ghost use mathlib.Core.Bool.{not};

@@ -1,4 +1,4 @@
-// Answers as document 01's numbers and values.
+// Answers as numbers and values (RULES E, O1).
 ghost use mathlib.Core.Path.{_≡_};
 ghost use lib.ListN.{length};
 ghost use Rattle.model.specs.Answers.{ofDone, ofOpened, ofPlaced, ofCovering, ofLoaded, ofListed};

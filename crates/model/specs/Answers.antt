@@ -1,4 +1,4 @@
--- Answers: document 01's number and values for each case, "its number and zero elsewhere"; and how a call comes to refuse.
+-- Answers: number and values for each case, a refusal's number and zero elsewhere (RULES O1, X11); and how a call comes to refuse.
 use mathlib.Core.Bool.{Bool, cond}
 use mathlib.Core.List.{List, [], _∷_}
 use Prim.Native.Nat.{ℕ}
@@ -15,7 +15,7 @@ use Rattle.model.specs.declared.Listed.{Listed}
 use Rattle.laws.specs.Lists.{pad}
 use Rattle.model.specs.Machine.{State}
 
--- what a call returns in document 01's numbers: the refusal's number (0: success) and the values
+-- what a call returns in numbers (RULES O1): the refusal's number (0: success) and the values
 pub record Reply : Type 0 where
   pub number : ℕ
   pub values : List ℕ
@@ -68,12 +68,12 @@ fine s = leaving Yes s
 abbrev pub refuse : Refusal → State → Try
 refuse r s = leaving (No r) s
 
--- "Of several the lowest number wins": the tests of a call stand in the order of their numbers, and the first that is true gives its refusal
+-- RULES O4, of several the lowest number: the tests of a call stand in the order of their numbers, and the first that is true gives its refusal
 unfoldable pub firstOf : List (Bool × Refusal) → Done
 firstOf [] = Yes
 firstOf (t ∷ l) = let rest = firstOf l in cond (t .0) (No (t .1)) rest
 
--- a refusal "changes nothing"; where none is given the call goes on
+-- a refusal changes nothing (RULES O2); where none is given the call goes on
 abbrev pub unless : Done → State → Try → Try
 unless Yes s t = t
 unless (No r) s t = refuse r s

@@ -23,11 +23,11 @@ unfoldable pub inSome : ℕ → ℕ → List Backing → Bool
 inSome f g [] = false
 inSome f g (b ∷ l) = leb g f && ltb f (g + b .len) || inSome f (g + 1) l
 
--- "A frame .. is free exactly if in none" (R2): the free frames, lowest first
+-- a frame is free exactly if in no backing (RULES R2): the free frames, lowest first
 unfoldable pub freeFrames : ℕ → List Backing → List ℕ
 freeFrames n l = keep (λ f. not (inSome f 0 l)) (upFrom 0 n)
 
--- "the frame pool (free count, next free frame)": next is the number of frames where none is free
+-- the pool, free count and next free frame (RULES J10): next is the number of frames where none is free
 unfoldable pub poolOf : ℕ → List Backing → Pool
 poolOf n l = record { free = length (freeFrames n l); next = record { 0 = first n (freeFrames n l) } }
 
@@ -46,7 +46,7 @@ runFrom n f k (x ∷ l) =
     let anew = runFrom n x 1 l in
     cond (eqb x (f + k)) (cond (eqb (k + 1) n) (At f) more) (cond (eqb n 1) (At x) anew)
 
--- "a run is the lowest that fits"
+-- a run is the lowest that fits (RULES C7)
 unfoldable pub lowestRun : Machine → ℕ → Found
 lowestRun m n = runFrom n 0 0 (freeFrames (m .frameCount) (take (m .frameCount) (m .backings)))
 
@@ -66,7 +66,7 @@ letGo m f = let fewer = withBacking m f (backingAt m f .len) (backingAt m f .hol
 unfoldable pub entryFor : Machine → ℕ → ℕ → Found
 entryFor m row page = firstRow (λ e. eqb (e .owner) (row + 1) && eqb (e .page .0) page) (m .entries) 0
 
--- the Rust's PrivateRegionState::backing. "Backing of a page: the page entry if any, else the range"
+-- the Rust's PrivateRegionState::backing. The page entry if any, else the range (RULES B1)
 unfoldable pub backing : Machine → ℕ → ℕ → ℕ → Backed
 backing m p s page = entryElse (entryFor m (rowOf p s) page)
   where
@@ -91,6 +91,6 @@ frameBytes l f = take 4096 (drop (f * 4096) l)
 unfoldable pub putFrame : List ℕ → ℕ → List ℕ → List ℕ
 putFrame l f new = take (f * 4096) l ++ (new ++ drop (f * 4096 + 4096) l)
 
--- n frames from f on, zeroed: "one zeroed contiguous range"
+-- n frames from f on, zeroed (RULES C6)
 unfoldable pub zeroFrames : ℕ → ℕ → List ℕ → List ℕ
 zeroFrames f n l = each (λ g t. putFrame t g (replicate 4096 0)) (upFrom f n) l

@@ -1,4 +1,4 @@
--- The public calls: the soundness test, the refusals in the order of their numbers, then the core. Document 01, "Answer numbers" and "Regions".
+-- The public calls: the soundness test, the refusals in the order of their numbers, then the core. RULES E, O, C, V, T, U, K, M, L.
 use mathlib.Core.Bool.{Bool, true, false, not, cond}
 use mathlib.Core.List.{List, [], _∷_}
 use Prim.Native.Nat.{ℕ, _/_}
@@ -31,7 +31,7 @@ use Rattle.model.specs.Access.{loaded, stored}
 use Rattle.model.specs.SoundTest.{soundb}
 use Rattle.model.specs.Refusals.{slotAt, startRefusals, closedRow, openRefusals, closeRefusals, processRefusals, regionRefusals, carveRefusals, populateRefusals, cloneRegionRefusals, cloneProcessRefusals, protectRefusals, pinRefusals, unpinSlot, unpinRefusals, accessRefusals}
 
--- "A refusal returns its number and zero elsewhere and changes nothing"; "lent machine breaks R1 to R6": BadTable before all
+-- RULES O1, O2: a refusal returns its number and zero elsewhere and changes nothing; E1: BadTable before all where the lent machine breaks R1 to R6
 abbrev pub decided : {A : Type 0} → Done → (Refusal → A) → State → After A → After A
 decided Yes refusal s t = t
 decided (No r) refusal s t = leaving (refusal r) s
@@ -41,7 +41,7 @@ guarded s refusal tests t = decided (firstOf ((not (soundb s), BadTable) ∷ tes
 
 -- ---- the machine itself
 
--- "Start begins a new sequence": whatever the machine was, it is empty now; the frames' bytes stay
+-- RULES W4, start begins a new sequence: whatever the machine was, it is empty now; the frames' bytes stay
 unfoldable pub start : State → List File → Try
 start s files = decided (firstOf (startRefusals s files)) No s (fine (withMachine s (emptyMachine (length (s .frames) / 4096) files)))
 
@@ -57,11 +57,11 @@ openedRow a size = record { opened = 1; start = record { 0 = a }; size = size; a
 unfoldable pub coreOpen : State → ℕ → ℕ → After Opened
 coreOpen s a size = let p = rowFound (closedRow (s .machine)) in leaving (Opened.Process p) (withMachine s (withProcesses (s .machine) (set (s .machine .processes) p (openedRow a size))))
 
--- "Open takes the lowest closed number, with an arena of user addresses, page-aligned at both ends"
+-- RULES W6, W7: open takes the lowest closed number, with an arena of user addresses, page-aligned at both ends
 unfoldable pub openProcess : State → ℕ → ℕ → After Opened
 openProcess s a size = guarded s Opened.No (openRefusals s a size) (coreOpen s a size)
 
--- "Close refuses InUse while a pin stands"
+-- RULES M4: close refuses InUse while a pin stands
 unfoldable pub close : State → ℕ → Try
 close s p = guarded s No (closeRefusals s p) (fine (withMachine s (closeProcess (s .machine) p)))
 
@@ -91,11 +91,11 @@ carve s p a e = guarded s notListed (carveRefusals s p a e) (coreCarve s p a e)
 
 -- ---- looking
 
--- "Covers takes any two numbers"
+-- RULES V5: covers takes any two numbers
 unfoldable pub covers : State → ℕ → ℕ → ℕ → After Covering
 covers s p a e = guarded s Covering.No (processRefusals s p) (leaving (cond (covered (s .machine) p a e) Covering.Covered Covering.Uncovered) s)
 
--- the region at an address: the Rust's region_for; "answers and lists give starts"
+-- the region at an address: the Rust's region_for; answers and lists give starts (RULES C2)
 unfoldable pub region : State → ℕ → ℕ → After Placed
 region s p a = guarded s Placed.No (regionRefusals s p a) (leaving (Placed.At (regionAt (s .machine) p (slotAt s p a) .start)) s)
 
@@ -133,7 +133,7 @@ protect s p a flags = guarded s No (protectRefusals s p a flags) (fine (withMach
 unfoldable pub pin : State → ℕ → ℕ → Try
 pin s p a = guarded s No (pinRefusals s p a) (fine (withMachine s (pinRegion (s .machine) p (slotAt s p a))))
 
--- "until its last unpin"
+-- until its last unpin (RULES M2)
 unfoldable pub unpin : State → ℕ → ℕ → Try
 unpin s p a = guarded s No (unpinRefusals s p a) (fine (withMachine s (unpinRegion (s .machine) p (unpinSlot s p a))))
 

@@ -16,7 +16,7 @@ use Rattle.model.specs.Answers.{After, leaving, firstOf, listing, notLis
 use Rattle.model.specs.Lookup.{isFile, isShared, isRanged, isPinned, overlaps, liesInside, spanEnd, startsOf, freeSlot, freeSlots, rowFound}
 use Rattle.model.specs.Create.{one}
 
--- "Carve bounds are multiples of 4,096, start at most end, end at most 2^47"
+-- RULES V1: bounds are multiples of 4,096, start at most end, end at most 2^47
 abbrev pub badBounds : ℕ → ℕ → Bool
 badBounds a e = not (aligned a) || not (aligned e) || ltb e a || ltb userEnd e
 
@@ -55,7 +55,7 @@ splitBound p b x =
     let split : Rest = record { machine = push (splitAt (x .machine) p (x .slot) b) p (x .slot); slot = rowFound (freeSlot (x .machine) p) } in
     cond (strictlyInside (regionAt (x .machine) p (x .slot)) b) split x
 
--- the Rust's split_at_bounds: "split at the bounds, and their parts added at the end", in address order
+-- the Rust's split_at_bounds: split at the bounds, and the parts added at the end (RULES V2), in address order
 unfoldable pub splitAtBounds : Machine → ℕ → ℕ → ℕ → ℕ → Machine
 splitAtBounds m p s a e = let x = splitBound p e (splitBound p a (record { machine = m; slot = s })) in push (x .machine) p (x .slot)
 
@@ -63,13 +63,13 @@ splitAtBounds m p s a e = let x = splitBound p e (splitBound p a (record { machi
 unfoldable pub slotsNeeded : Region → ℕ → ℕ → ℕ
 slotsNeeded r a e = one (strictlyInside r a) + one (strictlyInside r e && not (eqb a e))
 
--- the Rust's check_split and try_unwrap; "regions taken out still count against the slots"
+-- the Rust's check_split and try_unwrap; regions taken out still count against the slots (RULES O6)
 unfoldable pub splitRefusals : Machine → ℕ → ℕ → ℕ → ℕ → List (Bool × Refusal)
 splitRefusals m p s a e =
     let r = regionAt m p s in
     (isRanged r && not (isShared r), EagerBacking) ∷ (isShared r, Shared) ∷ (isPinned r, InUse) ∷ (ltb (freeSlots m p) (slotsNeeded r a e), TableFull) ∷ []
 
--- "A carve meets its regions one by one"; "After the first error the rest go back whole"
+-- RULES O6: a carve meets its regions one by one; V3: after the first error the rest go back whole
 unfoldable pub carveEach : List ℕ → Machine → (p a e : ℕ) → Machine × Done
 carveEach [] m p a e = (m, Yes)
 carveEach (s ∷ l) m p a e =
@@ -78,7 +78,7 @@ carveEach (s ∷ l) m p a e =
       | No r ↦ (withOrder m p (orderOf m p ++ (s ∷ l)), No r)
     ]
 
--- "Regions that overlap the range without lying inside it are taken out in list order"
+-- RULES V2: regions that overlap the range without lying inside it are taken out in list order
 abbrev pub partial : Machine → ℕ → ℕ → ℕ → ℕ → Bool
 partial m p a e s = overlaps (regionAt m p s) a e && not (liesInside (regionAt m p s) a e)
 
@@ -89,7 +89,7 @@ carveSplits m p a e = carveEach (keep (partial m p a e) (orderOf m p)) (withOrde
 unfoldable pub insideOf : Machine → ℕ → ℕ → ℕ → List ℕ
 insideOf m p a e = keep (λ s. liesInside (regionAt m p s) a e) (orderOf m p)
 
--- "Then InUse if a region inside is pinned, else the list of regions inside, unpinned"
+-- RULES V4: InUse if a region inside is pinned, else the list of regions inside
 unfoldable pub carveAnswer : Machine → ℕ → ℕ → ℕ → Done → Listed
 carveAnswer m p a e (No r) = notListed r
 carveAnswer m p a e Yes = cond (any (λ s. isPinned (regionAt m p s)) (insideOf m p a e)) (notListed InUse) (listing (startsOf m p (insideOf m p a e)))

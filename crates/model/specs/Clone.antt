@@ -39,7 +39,7 @@ rangePages m p s =
     let frames : List Held = map (λ i. record { page = r .start .0 / 4096 + i; frame = r .range .0 + i }) (upFrom 0 (backingAt m (r .range .0) .len)) in
     cond (isRanged r) (keep (λ h. not (isFound (entryFor m (rowOf p s) (h .page)))) frames) []
 
--- "CopyEager copies each backed page, range pages first"
+-- RULES K3: CopyEager copies each backed page, range pages first
 unfoldable pub backedPages : Machine → ℕ → ℕ → List Held
 backedPages m p s = rangePages m p s ++ singlePages (m .entries) (rowOf p s)
 
@@ -51,7 +51,7 @@ isCopied r = eqb (r .fork) 1
 unfoldable pub entriesNeeded : Machine → ℕ → ℕ → ℕ
 entriesNeeded m p s = cond (isCopied (regionAt m p s)) (length (backedPages m p s)) (length (singlePages (m .entries) (rowOf p s)))
 
--- "region cloning goes 9, 21, 14"
+-- RULES O5: region cloning goes 9, 21, 14
 unfoldable pub cloneRefusals : Machine → ℕ → ℕ → ℕ → List (Bool × Refusal)
 cloneRefusals m p s q =
     let r = regionAt m p s in
@@ -59,14 +59,14 @@ cloneRefusals m p s q =
     ∷ (not (isFound (freeSlot m q)) || ltb (freeEntries m) (entriesNeeded m p s), TableFull)
     ∷ (isCopied r && ltb (m .pool .free) (entriesNeeded m p s), OutOfMemory) ∷ []
 
--- "Clone of a region keeps address and flags"; it has no pins, and a copied one no range
+-- RULES K1: the clone keeps address and flags; it has no pins, and a copied one no range
 abbrev pub sharedRow : Region → Region
 sharedRow r = record { kind = r .kind; start = r .start; size = r .size; flags = r .flags; fork = r .fork; «per_thread» = r .«per_thread»; pins = 0; file = r .file; offset = r .offset; length = r .length; ranged = r .ranged; range = r .range }
 
 abbrev pub copiedRow : Region → Region
 copiedRow r = record { kind = r .kind; start = r .start; size = r .size; flags = r .flags; fork = r .fork; «per_thread» = r .«per_thread»; pins = 0; file = r .file; offset = r .offset; length = r .length; ranged = 0; range = record { 0 = 0 } }
 
--- "takes WRITABLE off the source's mappings", those of range pages as well as of page entries; a shared mapping keeps all four flags
+-- RULES K2: WRITABLE is taken off the source's mappings, those of range pages as well as of page entries (H11); a shared mapping keeps all four flags
 unfoldable pub demote : Machine → ℕ → ℕ → Machine
 demote m p s = let r = regionAt m p s in withMapped m p (remapWhere (λ x. not (isShared r) && mapsIn r x) (λ x. readOnly (x .flags .0)) (mappedOf m p))
 
@@ -77,7 +77,7 @@ shareEntry row h m = addEntry (hold m (h .frame)) row (h .page) (h .frame)
 unfoldable pub shareRange : Region → Machine → Machine
 shareRange r m = cond (isRanged r) (hold m (r .range .0)) m
 
--- "CopyOnWrite shares all backings"; Shared regions share the run
+-- RULES K2: CopyOnWrite shares all backings; Shared regions share the run
 unfoldable pub shareInto : State → ℕ → ℕ → ℕ → State
 shareInto s p slot q =
     let m = s .machine in
@@ -108,6 +108,6 @@ unfoldable pub cloneEach : List ℕ → State → ℕ → ℕ → Try
 cloneEach [] s p q = fine s
 cloneEach (slot ∷ l) s p q = andThen (coreCloneRegion s p slot q) (λ t. cloneEach l t p q)
 
--- the Rust's MemoryRegions::clone_into: "Cloning a process skips per-thread regions"
+-- the Rust's MemoryRegions::clone_into: cloning a process skips per-thread regions (RULES K4)
 unfoldable pub coreClone : State → ℕ → ℕ → Try
 coreClone s p q = cloneEach (keep (λ slot. eqb (regionAt (s .machine) p slot .«per_thread») 0) (orderOf (s .machine) p)) s p q

@@ -1,4 +1,4 @@
--- Creation: its limits, its refusals, and the new region. Document 01, "Regions", first paragraph.
+-- Creation: its limits, its refusals, and the new region. RULES C3 to C11.
 use mathlib.Core.Bool.{Bool, true, false, _&&_, _||_, not, cond}
 use mathlib.Core.List.{List, [], _∷_, _++_}
 use Prim.Native.Nat.{ℕ, _+_, _*_}
@@ -41,7 +41,7 @@ abbrev pub one : Bool → ℕ
 one true = 1
 one false = 0
 
--- "makes a Private (lazy, or eager ..), FileBacked or Shared region"; "save for Shared, flags, fork policy and per-thread mark"
+-- RULES C6: a Private (lazy or eager), FileBacked or Shared region; C5: flags, fork policy and per-thread mark, save for Shared
 abbrev pub wantedPrivate : ℕ → ℕ → Bool → Bool → Region
 wantedPrivate size flags copy thread = wanted 1 size flags (one copy) (one thread) 0 0 0
 
@@ -54,7 +54,7 @@ wantedShared size = wanted 3 size 0 0 0 0 0 0
 abbrev pub roundUp : ℕ → ℕ
 roundUp n = pagesFor n * 4096
 
--- "a given page-aligned start", a user address whose segment stays below 2^47
+-- RULES C3: a given start is page-aligned, a user address whose segment stays below 2^47
 abbrev pub badStart : Place → Bool
 badStart (Place.At a) = not (user (a .0))
 badStart Place.Lowest = false
@@ -63,11 +63,11 @@ abbrev pub badPlace : Place → ℕ → Bool
 badPlace (Place.At a) size = not (aligned (a .0)) || ltb userEnd (a .0 + roundUp size)
 badPlace Place.Lowest size = false
 
--- "a size of 1 byte to 2^47"; "The file offset is at most 2^47 and the file length at most the size"
+-- RULES C4: a size of 1 byte to 2^47; C8: file offset at most 2^47, file length at most the size
 abbrev pub badSize : Region → Bool
 badSize r = eqb (r .size) 0 || ltb userEnd (r .size) || ltb userEnd (r .offset) || ltb (r .size) (r .length)
 
--- where the segment goes: "a given .. start or the lowest free one"
+-- where the segment goes (RULES C3): a given start or the lowest free one
 abbrev pub spot : Machine → ℕ → Place → ℕ → Found
 spot m p (Place.At a) len = cond (reserved m p (a .0) len) Nothing (At (a .0))
 spot m p Place.Lowest len = lowestStart m p len
@@ -94,16 +94,16 @@ abbrev pub placedAt : Region → ℕ → Found → Region
 placedAt r start Nothing = record { kind = r .kind; start = record { 0 = start }; size = r .size; flags = r .flags; fork = r .fork; «per_thread» = r .«per_thread»; pins = 0; file = r .file; offset = r .offset; length = r .length; ranged = 0; range = record { 0 = 0 } }
 placedAt r start (At f) = record { kind = r .kind; start = record { 0 = start }; size = r .size; flags = r .flags; fork = r .fork; «per_thread» = r .«per_thread»; pins = 0; file = r .file; offset = r .offset; length = r .length; ranged = 1; range = record { 0 = f } }
 
--- the Rust's add_region: "new regions go last in the list"; it takes the lowest free slot
+-- the Rust's add_region: new regions go last in the list (RULES C11); it takes the lowest free slot
 unfoldable pub addRegion : Machine → ℕ → Region → Machine
 addRegion m p r = let s = rowFound (freeSlot m p) in withOrder (withRegion m p s r) p (orderOf m p ++ (s ∷ []))
 
--- "one zeroed contiguous range", "(one zeroed contiguous run)": the lowest run, its frames zeroed
+-- RULES C6, C7, a zeroed contiguous range or run: the lowest run, its frames zeroed
 unfoldable pub withRun : State → Found → ℕ → State
 withRun s Nothing n = s
 withRun s (At f) n = withMachine (withFrames s (zeroFrames f n (s .frames))) (claim (s .machine) f n)
 
--- "Creation maps nothing"
+-- creation maps nothing (RULES C10)
 unfoldable pub coreCreate : State → ℕ → Place → Bool → Region → State
 coreCreate s p place eager r =
     let start = rowFound (spot (s .machine) p place (roundUp (r .size))) in

@@ -23,17 +23,17 @@ use Rattle.model.specs.Lookup.{isShared, isFile, freeEntry, isFound}
 use Rattle.model.specs.Paging.{pageStart, mapping, isWritable, isUser, allFour, translate, mapPage, unmapPage, remapWhere, wellMapped}
 use Rattle.model.specs.Backing.{backing, claim, letGo, addEntry, frameBytes, putFrame}
 
--- "Mapped, write, region read-only: NotWritable. Mapped, write: one holder gets the region's flags; more holders get a copied frame."
+-- RULES T3 to T5: mapped, write: a read-only region is NotWritable; one holder gets the region's flags; more holders get a copied frame
 abbrev pub mappedWay : Region → Backed → Way
 mappedWay r (ByEntry i f n) = cond (isWritable (r .flags .0)) (cond (eqb n 1) Restore (Copy f)) (Refuse NotWritable)
 mappedWay r (ByRange f n) = cond (isWritable (r .flags .0)) (cond (eqb n 1) Restore (Copy f)) (Refuse NotWritable)
 mappedWay r Unbacked = cond (isWritable (r .flags .0)) (Refuse MapFailed) (Refuse NotWritable)
 
--- "Unmapped, backed: a read-only region maps or says NotWritable; one holder maps with full flags; a read with more holders maps without WRITABLE; a write copies."
+-- RULES T6 to T9: unmapped, backed: a read-only region maps or says NotWritable; one holder maps with full flags; a read with more holders maps without WRITABLE; a write copies
 abbrev pub backedWay : Region → PhysFrame → ℕ → Bool → Way
 backedWay r f n w = cond (isWritable (r .flags .0)) (cond (eqb n 1) (Map f (r .flags)) (cond w (Copy f) (Map f (record { 0 = readOnly (r .flags .0) })))) (cond w (Refuse NotWritable) (Map f (r .flags)))
 
--- "Unmapped, unbacked: a filled new frame is mapped with the region's flags."
+-- RULES T10: unmapped, unbacked: a filled new frame is mapped with the region's flags
 abbrev pub unmappedWay : Region → Backed → Bool → Way
 unmappedWay r (ByEntry i f n) w = backedWay r f n w
 unmappedWay r (ByRange f n) w = backedWay r f n w
@@ -43,11 +43,11 @@ abbrev pub translatedWay : Region → Translated → Backed → Bool → Way
 translatedWay r (Mapped x) b w = cond (wellMapped (Mapped x) w) Already (mappedWay r b)
 translatedWay r NotMapped b w = unmappedWay r b w
 
--- "Private and file: NotAccessible first. Already mapped well enough: success."
+-- RULES T1, T2: NotAccessible first; already mapped well enough: success
 unfoldable pub privateWay : Region → Translated → Backed → Bool → Way
 privateWay r t b w = cond (isUser (r .flags .0)) (translatedWay r t b w) (Refuse NotAccessible)
 
--- "Shared: mapped with all four flags"; an unmapped page of it is always backed, by its range
+-- RULES T11: Shared is mapped with all four flags; an unmapped page of it is always backed, by its range
 unfoldable pub sharedWay : Translated → Backed → Way
 sharedWay (Mapped x) b = Already
 sharedWay NotMapped (ByEntry i f n) = Map f (record { 0 = allFour })
@@ -84,7 +84,7 @@ byEntry Unbacked = false
 abbrev pub fromFile : Region → ℕ → ℕ
 fromFile r page = min (r .length - (pageStart page - r .start .0)) 4096
 
--- "unreadable file, page start below the region's file length"
+-- RULES E15: unreadable file, page start below the region's file length
 unfoldable pub readFails : Machine → Region → ℕ → Bool
 readFails m r page = isFile r && ltb 0 (fromFile r page) && eqb (getD (m .files) (r .file) noFile .readable) 0
 
@@ -100,7 +100,7 @@ wayRefusals m p s page (Copy f) =
 wayRefusals m p s page Fill =
     (noFrame m, OutOfMemory) ∷ (readFails m (regionAt m p s) page, ReadFailed) ∷ (noRoom m p, MapFailed) ∷ (noEntryLeft m, TableFull) ∷ []
 
--- "File fill: bytes from the file up to the file length, zeros after it and after the file's end."
+-- RULES B2: bytes from the file up to the file length, zeros after it and after the file's end
 unfoldable pub filePage : List ℕ → File → Region → ℕ → List ℕ
 filePage bytes file r page =
     let at = r .offset + (pageStart page - r .start .0) in

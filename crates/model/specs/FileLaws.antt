@@ -1,4 +1,4 @@
--- "up to 8 files, lent with their bytes and never changed": no call changes the files' bytes.
+-- RULES N7, up to 8 files, lent with their bytes and never changed: no call changes the files' bytes.
 use mathlib.Core.Path.{_≡_, refl, _∙_}
 use mathlib.Core.Bool.{Bool, true, false, _&&_, not, cond}
 use mathlib.Core.List.{List, [], _∷_}

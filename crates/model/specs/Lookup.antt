@@ -57,7 +57,7 @@ overlaps r a e = ltb a (spanEnd r) && ltb (r .start .0) e
 abbrev pub liesInside : Region → ℕ → ℕ → Bool
 liesInside r a e = leb a (r .start .0) && leb (spanEnd r) e
 
--- pages that hold a number of bytes; "The segment is the size rounded up to pages"
+-- pages that hold a number of bytes; the segment is the size rounded up to pages (RULES C9)
 abbrev pub pagesFor : ℕ → ℕ
 pagesFor n = (n + 4095) / 4096
 
@@ -85,7 +85,7 @@ isAttached m p s = among s (orderOf m p)
 abbrev pub startsOf : Machine → ℕ → List ℕ → List ℕ
 startsOf m p l = map (λ s. regionAt m p s .start .0) l
 
--- "Freed slots, entries .. are used again, lowest first"
+-- freed slots and entries are used again, lowest first (RULES N11)
 unfoldable pub freeSlot : Machine → ℕ → Found
 freeSlot m p = firstRow (λ r. eqb (r .kind) 0) (regionsOf m p) 0
 
@@ -107,7 +107,7 @@ abbrev pub isFound : Found → Bool
 isFound (At i) = true
 isFound Nothing = false
 
--- the Rust's covers. "yes exactly when every address from start up to end lies in an attached region": from an address
+-- the Rust's covers. Yes exactly when every address from start up to end lies in an attached region (RULES V5): from an address
 -- below the end go on to the end of the region there; each region is passed once, so as many steps as there are regions are enough
 unfoldable pub coveredFrom : ℕ → Machine → ℕ → ℕ → ℕ → Bool
 coveredFrom zero m p a e = leb e a

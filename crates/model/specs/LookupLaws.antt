@@ -1,4 +1,4 @@
--- What the look-ups find, and that `covered` is document 01's sentence: every address of the range lies in an attached region.
+-- What the look-ups find, and that `covered` is RULES V5: every address of the range lies in an attached region.
 use mathlib.Core.Path.{_≡_, refl, sym, subst}
 use mathlib.Core.Bool.{Bool, true, false, _||_, cond, false≢true}
 use mathlib.Core.List.{List, [], _∷_}
@@ -52,7 +52,7 @@ pub record Attached (m : Machine) (p x : ℕ) : Type 0 where
   pub listed : among slot (orderOf m p) ≡ true
   pub inside : contains (regionAt m p slot) x ≡ true
 
--- "every address from start up to end lies in an attached region"
+-- every address from start up to end lies in an attached region (RULES V5)
 abbrev pub Covered : Machine → ℕ → ℕ → ℕ → Type 0
 Covered m p a e = (x : ℕ) → a ≤ x → x < e → Attached m p x
 

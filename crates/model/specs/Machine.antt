@@ -1,4 +1,4 @@
--- The machine as typed tables, and the state that every call takes and leaves. Document 01, "Numbers".
+-- The machine as typed tables, and the state that every call takes and leaves. RULES N.
 use mathlib.Core.List.{List}
 use Prim.Native.Nat.{ℕ, _+_, _*_, _^_}
 use lib.ListN.{length, getD, set, take, replicate}
@@ -11,8 +11,8 @@ use Rattle.model.specs.declared.Pool.{Pool}
 use Rattle.model.specs.declared.File.{File}
 use Rattle.laws.specs.Lists.{part, putPart, pad}
 
--- "Each of 8 processes has 64 region slots .. and 128 mapped pages. There are 512 page entries in all, up to 8 files,
--- .. and 0 to 256 frames": rows of the tables
+-- RULES N3 to N8: 8 processes with 64 region slots and 128 mapped pages each, 512 page entries in all, up to 8 files,
+-- 0 to 256 frames: rows of the tables
 abbrev pub processRows : ℕ
 processRows = 8
 
@@ -31,11 +31,11 @@ fileRows = 8
 abbrev pub frameRows : ℕ
 frameRows = 256
 
--- "A pin count is at most 65,535"
+-- a pin count is at most 65,535 (RULES N9)
 abbrev pub mostPins : ℕ
 mostPins = 65535
 
--- "User addresses are below 2^47"
+-- user addresses are below 2^47 (RULES N10)
 abbrev pub userEnd : ℕ
 userEnd = 2 ^ 47
 
@@ -134,7 +134,7 @@ unfoldable pub withMapped : Machine → ℕ → List Mapping → Machine
 withMapped m p l =
     record { processes = set (m .processes) p (mappedCount (processAt m p) (length l)); regions = m .regions; order = m .order; mapped = putPart 128 p (pad 128 noMapping l) (m .mapped); entries = m .entries; backings = m .backings; pool = m .pool; files = m .files; frameCount = m .frameCount; fileCount = m .fileCount }
 
--- "Start": no process, no region, no backing; every frame free; the files as they are lent
+-- what start leaves (RULES W3): no process, no region, no backing; every frame free; the files as they are lent
 unfoldable pub emptyMachine : ℕ → List File → Machine
 emptyMachine frames files =
     record { processes = replicate processRows noProcess; regions = replicate 512 noRegion; order = replicate 512 0; mapped = replicate 1024 noMapping; entries = replicate entryRows noEntry; backings = replicate frameRows noBacking; pool = record { free = frames; next = record { 0 = 0 } }; files = pad fileRows noFile files; frameCount = frames; fileCount = length files }

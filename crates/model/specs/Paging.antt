@@ -26,7 +26,7 @@ isWritable flags = has flags writable
 abbrev pub isUser : ℕ → Bool
 isUser flags = has flags userAccessible
 
--- "a shared mapping has all four": PRESENT, WRITABLE, USER_ACCESSIBLE, NO_EXECUTE
+-- a shared mapping has all four (RULES R5, F1): PRESENT, WRITABLE, USER_ACCESSIBLE, NO_EXECUTE
 abbrev pub allFour : ℕ
 allFour = 1 + 2 + 4 + 2 ^ 63
 
@@ -56,7 +56,7 @@ mapsIn r x = contains r (pageStart (x .page .0))
 unfoldable pub unmapFrom : Machine → ℕ → Region → Machine
 unmapFrom m p r = withMapped m p (keep (λ x. not (mapsIn r x)) (mappedOf m p))
 
--- "mapped well enough": mapped, and for a write mapped writable
+-- mapped well enough (RULES T2): mapped, and for a write mapped writable
 abbrev pub wellMapped : Translated → Bool → Bool
 wellMapped NotMapped w = false
 wellMapped (Mapped x) w = not w || isWritable (x .flags .0)

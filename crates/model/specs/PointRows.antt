@@ -1,4 +1,4 @@
--- P1 to P12 of document 01, as rows of the table.
+-- RULES P1 to P12, as rows of the table.
 use mathlib.Core.Bool.{true, false}
 use mathlib.Core.List.{List, [], _∷_, map}
 use Prim.Native.Nat.{ℕ, _*_}

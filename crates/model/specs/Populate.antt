@@ -25,7 +25,7 @@ lowestAbove n (x ∷ l) = lower n x (lowestAbove n l)
 unfoldable pub nextStart : Machine → ℕ → ℕ → Found
 nextStart m p page = lowestAbove page (map (λ s. regionAt m p s .start .0 / 4096) (orderOf m p))
 
--- one page: "skips those mapped well enough"
+-- one page: skipped if mapped well enough (RULES U1)
 unfoldable pub populatePage : State → ℕ → ℕ → ℕ → Bool → Try
 populatePage s p slot page w =
     let fault = handleFault s p slot page w in
@@ -44,7 +44,7 @@ everyPage zero s p page w = fine s
 everyPage (suc n) s p page w = andThen (onePage s p page w) (λ t. everyPage n t p (page + 1) w)
 
 -- the same, in steps that can be counted, since a range may have 2^35 pages (PopulateLaws: visit-every)
--- "Populate visits pages in rising order .. [skips] those in no region": at most n pages or gaps from `page` to `last`
+-- RULES U1, rising order, pages in no region skipped: at most n pages or gaps from `page` to `last`
 unfoldable pub visit : ℕ → State → (p page last : ℕ) → Bool → Try
 visit zero s p page last w = fine s
 visit (suc n) s p page last w =
@@ -68,11 +68,11 @@ visits = pages + 1 + slots + 1 + 1
 abbrev pub lastAddress : ℕ → ℕ → ℕ
 lastAddress a len = a + (len - 1)
 
--- "length 0, a sum past 2^64 - 1 or a last address not canonical: success, nothing done"
+-- RULES U2: length 0, a sum past 2^64 - 1 or a last address not canonical: success, nothing done
 unfoldable pub nothingToDo : ℕ → ℕ → Bool
 nothingToDo a len = eqb len 0 || leb (2 ^ 64) (lastAddress a len) || not (canonical (lastAddress a len))
 
--- "A last address in the upper half: BadRange"
+-- RULES U3: a last address in the upper half is BadRange
 unfoldable pub upperLast : ℕ → ℕ → Bool
 upperLast a len = not (nothingToDo a len) && not (user (lastAddress a len))
 
@@ -82,7 +82,7 @@ corePopulate s p a len w =
     let walk = visit visits s p (a / 4096) (lastAddress a len / 4096) w in
     cond (nothingToDo a len) (fine s) walk
 
--- "Eager populate asks for write access on every Private CopyEager region"
+-- RULES U4: eager populate asks for write access on every Private CopyEager region
 unfoldable pub eagerly : State → ℕ → ℕ → Try
 eagerly s p slot =
     let r = regionAt (s .machine) p slot in

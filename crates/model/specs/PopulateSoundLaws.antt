@@ -55,7 +55,7 @@ module _ (s : State) (sound : Sound s) (p : ℕ) (small : p < 8) where
       let size = sound .r6 .sized .regions in
       eqb-true _ _ (sound .r6 .regions (rowOf p slot) (omega arith) .used used .alignedStart)
 
-  -- "Populate visits pages in rising order, skips those mapped well enough and those in no region"
+  -- RULES U1: populate visits pages in rising order, skips those mapped well enough and those in no region
   pub populate-every : (a len : ℕ) (w : Bool) → nothingToDo a len ≡ false → corePopulate s p a len w ≡ everyPage (suc (lastAddress a len / 4096) - a / 4096) s p (a / 4096) w
   unfolding corePopulate
   populate-every a len w e =

@@ -45,7 +45,7 @@ kindIn s p (At slot) = regionAt (s .machine) p slot .kind
 abbrev pub kindAt : State → ℕ → ℕ → ℕ
 kindAt s p a = kindIn s p (homeSlot s p a)
 
--- "A private page or mapping is one of a Private or FileBacked region" (document 01)
+-- a private page or mapping is one of a Private or FileBacked region (RULES R0)
 pub record PrivateAt (s : State) (p a : ℕ) : Type 0 where
   pub some : kindAt s p a ≢ 0
   pub unshared : kindAt s p a ≢ 3

@@ -18,11 +18,11 @@ holdersBy Unbacked = 0
 abbrev pub withFlags : Region → ℕ → Region
 withFlags r f = record { kind = r .kind; start = r .start; size = r .size; flags = record { 0 = f }; fork = r .fork; «per_thread» = r .«per_thread»; pins = r .pins; file = r .file; offset = r .offset; length = r .length; ranged = r .ranged; range = r .range }
 
--- the flags that a page gets: "without WRITABLE where holders exceed one"
+-- the flags that a page gets: without WRITABLE where holders exceed one (RULES M1)
 unfoldable pub pageFlags : Machine → ℕ → ℕ → ℕ → ℕ → ℕ
 pageFlags m p s flags page = cond (ltb 1 (holdersBy (backing m p s page))) (readOnly flags) flags
 
--- "Protection remaps every mapped page"
+-- protection remaps every mapped page (RULES M1)
 unfoldable pub setProtection : Machine → ℕ → ℕ → ℕ → Machine
 setProtection m p s flags =
     let r = regionAt m p s in

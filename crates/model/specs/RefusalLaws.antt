@@ -1,4 +1,4 @@
--- "Of several the lowest number wins": every call's tests stand in the order of their numbers, so the first that is true is the lowest.
+-- RULES O4, of several the lowest number: every call's tests stand in the order of their numbers, so the first that is true is the lowest.
 use mathlib.Core.Path.{_≡_, refl, ap, sym, _∙_}
 use mathlib.Core.Bool.{Bool, true, false, _&&_, cond, false≢true}
 use mathlib.Core.List.{List, [], _∷_}

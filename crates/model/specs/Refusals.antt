@@ -1,4 +1,4 @@
--- Which refusals each call gives before its core, in the order of their numbers. Document 01, "Answer numbers": "Of several the lowest number wins".
+-- Which refusals each call gives before its core, in the order of their numbers: of several the lowest (RULES O4).
 -- BadTable stands before all of them (Calls: guarded); what faults, carves and clones refuse further is in Fault, Carve and Clone.
 use mathlib.Core.Bool.{Bool, _&&_, _||_, not}
 use mathlib.Core.List.{List, [], _∷_}
@@ -27,7 +27,7 @@ closedb s p = (not (isOpen (s .machine) p), NoProcess)
 abbrev pub badAddress : ℕ → Bool × Refusal
 badAddress a = (not (user a), BadAddress)
 
--- "Calls name a region by process and any address in it"
+-- calls name a region by process and any address in it (RULES C1)
 abbrev pub noRegionAt : State → ℕ → ℕ → Bool × Refusal
 noRegionAt s p a = (not (isFound (regionFor (s .machine) p a)), NoRegion)
 
@@ -36,7 +36,7 @@ slotAt s p a = rowFound (regionFor (s .machine) p a)
 
 -- ---- the machine itself
 
--- "a frame length that doesn't fit is BadTable", and so are files that do not fit their bytes or the table
+-- a frame length that does not fit is BadTable (RULES W5), and so are files that do not fit their bytes or the table
 unfoldable pub badLengths : State → List File → Bool
 badLengths s files =
     not (eqb (length (s .frames) % 4096) 0) || (ltb frameRows (length (s .frames) / 4096) || (ltb fileRows (length files)
@@ -85,18 +85,18 @@ cloneProcessRefusals s p q = closedb s p ∷ closedb s q ∷ []
 unfoldable pub protectRefusals : State → ℕ → ℕ → ℕ → List (Bool × Refusal)
 protectRefusals s p a flags = closedb s p ∷ badAddress a ∷ (not (goodFlags flags), BadFlags) ∷ noRegionAt s p a ∷ (isShared (regionAt (s .machine) p (slotAt s p a)), UnsupportedRegion) ∷ []
 
--- "A pin count is at most 65,535": "a slot, entry or pin is wanted and none is left"
+-- a pin count is at most 65,535 (RULES N9); TableFull where a pin is wanted and none is left (E21)
 unfoldable pub pinRefusals : State → ℕ → ℕ → List (Bool × Refusal)
 pinRefusals s p a = closedb s p ∷ badAddress a ∷ noRegionAt s p a ∷ (leb mostPins (regionAt (s .machine) p (slotAt s p a) .pins), TableFull) ∷ []
 
--- "unpin: a detached one too"; "NoRegion .. (unpin: no pin)"
+-- unpin finds a detached region too (RULES C1); NoRegion where there is no pin (E7)
 abbrev pub unpinSlot : State → ℕ → ℕ → ℕ
 unpinSlot s p a = rowFound (anyRegionFor (s .machine) p a)
 
 unfoldable pub unpinRefusals : State → ℕ → ℕ → List (Bool × Refusal)
 unpinRefusals s p a = closedb s p ∷ badAddress a ∷ (not (isFound (anyRegionFor (s .machine) p a)) || not (isPinned (regionAt (s .machine) p (unpinSlot s p a))), NoRegion) ∷ []
 
--- ---- loads and stores: "else Denied, never NoRegion"
+-- ---- loads and stores: else Denied, never NoRegion (RULES L3)
 
 unfoldable pub accessRefusals : State → ℕ → ℕ → Bool → List (Bool × Refusal)
 accessRefusals s p a w = closedb s p ∷ badAddress a ∷ (not (granted (pageAt (s .machine) p a) w), Denied) ∷ []

@@ -24,17 +24,17 @@ dropRegion m p s =
     let all = cond (isRanged r) (letGo pages (r .range .0)) pages in
     withRegion (withEntries all (map (λ e. cond (eqb (e .owner) (row + 1)) noEntry e) (m .entries))) p s noRegion
 
--- "Removing a pinned region unmaps and detaches it; it holds backings and segment until its last unpin": the Rust's remove_region
+-- RULES M2: removing a pinned region unmaps and detaches it; it holds backings and segment until its last unpin: the Rust's remove_region
 unfoldable pub removeRegion : Machine → ℕ → ℕ → Machine
 removeRegion m p s =
     let out = withOrder (unmapFrom m p (regionAt m p s)) p (keep (λ t. not (eqb t s)) (orderOf m p)) in
     cond (isPinned (regionAt m p s)) out (dropRegion out p s)
 
--- "Clear does so for all": the Rust's clear
+-- RULES M3, so for all regions: the Rust's clear
 unfoldable pub clearRegions : Machine → ℕ → Machine
 clearRegions m p = each (λ s n. removeRegion n p s) (orderOf m p) m
 
--- "Close refuses InUse while a pin stands"
+-- RULES M4: close refuses InUse while a pin stands
 unfoldable pub pinStands : Machine → ℕ → Bool
 pinStands m p = any isPinned (regionsOf m p)
 

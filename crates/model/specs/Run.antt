@@ -1,4 +1,4 @@
--- The call alphabet: document 01's calls as data, one step, and a run of them.
+-- The call alphabet: the machine's calls as data, one step, and a run of them.
 use mathlib.Core.Bool.{Bool}
 use mathlib.Core.List.{List, [], _∷_}
 use Prim.Native.Nat.{ℕ}
@@ -33,7 +33,7 @@ pub data Call : Type 0 where
   load : (p a : ℕ) → Call
   store : (p a b : ℕ) → Call
 
--- an answer as document 01's number and values
+-- an answer as number and values (RULES O1)
 abbrev pub replying : {A : Type 0} → (A → Reply) → After A → After Reply
 replying f t = record { answer = f (t .answer); state = t .state }
 
@@ -66,7 +66,7 @@ call (store p a b) s = replying ofDone (calls.store s p a b)
 unfoldable pub step : Call → State → State
 step c s = call c s .state
 
--- "after any sequence of document 01's calls, refused ones included" (demand 3)
+-- after any sequence of calls, refused ones included (RULES D3)
 unfoldable pub run : List Call → State → State
 run [] s = s
 run (c ∷ l) s = run l (step c s)

@@ -1,4 +1,4 @@
--- R1 to R6, document 01's "Rules of a sound machine", as propositions: one field a rule. The test of them is in SoundTest, and SoundLaws proves that it tells them.
+-- RULES R1 to R6, a sound machine, as propositions: one field a rule. The test of them is in SoundTest, and SoundLaws proves that it tells them.
 use mathlib.Core.Path.{_≡_}
 use mathlib.Core.Logic.{_⊎_, _≢_}
 use mathlib.Core.Bool.{true, _&&_, not}
@@ -35,7 +35,7 @@ Used r = r .kind ≢ 0
 abbrev pub Apart : Region → Region → Type 0
 Apart r x = (segmentEnd r ≤ x .start .0) ⊎ (segmentEnd x ≤ r .start .0)
 
--- "Attached and detached regions of a process have disjoint segments."
+-- RULES R1: attached and detached regions of a process have disjoint segments
 abbrev pub R1 : Machine → Type 0
 R1 m = Rows noProcess (m .processes) (λ p q. Pairs noRegion (regionsOf m p) Used (λ r x. Used x → Apart r x))
 
@@ -45,7 +45,7 @@ R1 m = Rows noProcess (m .processes) (λ p q. Pairs noRegion (regionsOf m p) Use
 abbrev pub freeOf : Machine → List ℕ
 freeOf m = freeFrames (m .frameCount) (take (m .frameCount) (m .backings))
 
--- "A frame lies in at most one backing and is free exactly if in none."
+-- RULES R2: a frame lies in at most one backing and is free exactly if in none
 pub record R2 (m : Machine) : Type 0 where
   -- a backing ends before the next one starts, and lies in the machine's frames
   pub apart : Rows noBacking (m .backings) (λ f b. b .len ≢ 0 → Rows noBacking (m .backings) (λ g c. f < g → c .len ≢ 0 → f + b .len ≤ g))
@@ -78,7 +78,7 @@ holds m = entryHolds (m .entries) ++ rangeHolds (m .regions)
 unfoldable pub holdersOf : Machine → ℕ → ℕ
 holdersOf m f = count (λ h. eqb (h .frame) f) (holds m)
 
--- "A backing's holder count is the number of regions' entries or ranges that hold it, at least 1."
+-- RULES R3: a backing's holder count is the number of regions' entries or ranges that hold it, at least 1
 abbrev pub R3 : Machine → Type 0
 R3 m = Rows noBacking (m .backings) (λ f b. b .len ≢ 0 → (b .holders ≡ holdersOf m f) × (1 ≤ b .holders))
 
@@ -108,7 +108,7 @@ pub record Homed (m : Machine) (p : ℕ) (x : Mapping) : Type 0 where
   pub home : homeOf m p x ≡ At slot
   pub frame : frameBy (backing m p slot (x .page .0)) ≡ At (x .frame .0)
 
--- "A mapped page starts inside exactly one attached region, and its frame is that region's backing of the page."
+-- RULES R4: a mapped page starts inside exactly one attached region, and its frame is that region's backing of the page
 abbrev pub R4 : Machine → Type 0
 R4 m = Rows noProcess (m .processes) (λ p q. Rows noMapping (mappedOf m p) (λ i x. Homed m p x))
 
@@ -120,13 +120,13 @@ pub record Flagged (r : Region) (flags holders : ℕ) : Type 0 where
   pub lone : r .kind ≢ 3 → isWritable flags ≡ true → holders ≡ 1
   pub shared : r .kind ≡ 3 → flags ≡ allFour
 
--- "A private mapping has its region's flags, or those without WRITABLE; it is writable only with one holder; a shared mapping has all four."
+-- RULES R5: a private mapping has its region's flags, or those without WRITABLE; it is writable only with one holder; a shared mapping has all four
 abbrev pub R5 : Machine → Type 0
 R5 m = Rows noProcess (m .processes) (λ p q. Rows noMapping (mappedOf m p) (λ i x. (slot : ℕ) → homeOf m p x ≡ At slot → Flagged (regionAt m p slot) (x .flags .0) (holdersBy (backing m p slot (x .page .0)))))
 
 -- ---- R6
 
--- "Table counts .. and the frame bytes' length fit"
+-- RULES R6a: table counts and the length of the frames' bytes fit
 pub record Sized (s : State) : Type 0 where
   pub processes : length (s .machine .processes) ≡ processRows
   pub regions : length (s .machine .regions) ≡ 512
@@ -144,7 +144,7 @@ pub record FileFits (s : State) (i : ℕ) (f : File) : Type 0 where
   pub inside : i < s .machine .fileCount → (f .readable ≤ 1) × (f .offset + f .len ≤ length (s .bytes))
   pub free : s .machine .fileCount ≤ i → f ≡ noFile
 
--- "an arena of user addresses, page-aligned at both ends"; "closed processes are empty"
+-- RULES W7: an arena of user addresses, page-aligned at both ends; R6c: closed processes are empty
 pub record ProcessFits (m : Machine) (p : ℕ) (q : Process) : Type 0 where
   pub closed : q .opened ≢ 1 → (q ≡ noProcess) × Rows noRegion (regionsOf m p) (λ s r. r .kind ≡ 0)
   pub alignedStart : aligned (q .start .0) ≡ true
@@ -154,19 +154,19 @@ pub record ProcessFits (m : Machine) (p : ℕ) (q : Process) : Type 0 where
   pub attached : q .attached ≤ 64
   pub mapped : q .mapped ≤ 128
 
--- the list of attached regions: slots in use, none twice, and 0 past the last; "detached regions are pinned"
+-- the list of attached regions: slots in use, none twice, and 0 past the last; detached regions are pinned (RULES R6d)
 pub record Ordered (m : Machine) (p : ℕ) (q : Process) : Type 0 where
   pub listed : Rows 0 (orderOf m p) (λ i s. (s < 64) × Used (regionAt m p s))
   pub free : Rows 0 (drop (q .attached) (part 64 p (m .order))) (λ i s. s ≡ 0)
   pub once : Pairs 0 (orderOf m p) (λ s. Unit {0}) (λ s t. s ≢ t)
   pub detached : Rows noRegion (regionsOf m p) (λ s r. Used r → (among s (orderOf m p) ≡ true) ⊎ (1 ≤ r .pins))
 
--- "page order": rising, and free rows past the last
+-- page order (RULES R6a): rising, and free rows past the last
 pub record Paged (m : Machine) (p : ℕ) (q : Process) : Type 0 where
   pub rising : Pairs noMapping (mappedOf m p) (λ x. Unit {0}) (λ x y. x .page .0 < y .page .0)
   pub free : Rows noMapping (drop (q .mapped) (part 128 p (m .mapped))) (λ i x. x ≡ noMapping)
 
--- "records keep creation's limits (file offset plus size up to 2^48)"; "a range covers its whole region, and Shared has one"
+-- RULES R6b: records keep creation's limits, file offset plus size up to 2^48; R6f, R6g: a range covers its whole region, and Shared has one
 pub record Limits (m : Machine) (r : Region) : Type 0 where
   pub kind : r .kind ≤ 3
   pub alignedStart : aligned (r .start .0) ≡ true
@@ -185,7 +185,7 @@ pub record RegionFits (m : Machine) (r : Region) : Type 0 where
   pub free : r .kind ≡ 0 → r ≡ noRegion
   pub used : Used r → Limits m r
 
--- "entries start in their region"; Shared has "no entries"; an entry's backing is one frame
+-- RULES R6e: entries start in their region; R6g: Shared has no entries; an entry's backing is one frame
 pub record Entered (m : Machine) (e : Entry) : Type 0 where
   pub owner : e .owner ≤ 512
   pub used : Used (getD (m .regions) (e .owner - 1) noRegion)
@@ -197,9 +197,9 @@ pub record EntryFits (m : Machine) (e : Entry) : Type 0 where
   pub free : e .owner ≡ 0 → e ≡ noEntry
   pub used : e .owner ≢ 0 → Entered m e
 
--- "Table counts, page order and the frame bytes' length fit; records keep creation's limits ..; closed processes are empty; detached regions
+-- RULES R6, all of it: counts, page order and the frames' length fit; records keep creation's limits; closed processes are empty; detached regions
 -- are pinned; entries start in their region, one a page; a range covers its whole region, and Shared has one and no entries; a backing's
--- holders hold it at one page, all Shared or none."
+-- holders hold it at one page, all Shared or none
 pub record R6 (s : State) : Type 0 where
   pub sized : Sized s
   pub files : Rows noFile (s .machine .files) (FileFits s)

@@ -1,4 +1,4 @@
--- Points of our own beside the edges that document 01 leaves without one, in the same form.
+-- Points of our own beside the edges that P1 to P12 leave without one, in the same form.
 use mathlib.Core.Bool.{true, false}
 use mathlib.Core.List.{List, [], _∷_, map}
 use Prim.Native.Nat.{ℕ, _+_, _*_, _^_}

@@ -24,7 +24,7 @@ inserted m p at n x = withCount (withRows m p (rowPut (rowsOf m p) at n x)) p (n
 abbrev pub takenOut : Machine → ℕ → ℕ → ℕ → ℕ → Machine
 takenOut m p from to n = withCount (withRows m p (rowsTaken (rowsOf m p) from to n)) p (n - (to - from))
 
--- "MapFailed": 128 pages are mapped already
+-- MapFailed (RULES E16): 128 pages are mapped already
 unfoldable pub mapBy : Machine → ℕ → Mapping → Machine
 mapBy m p x = cond (ltb (mappedPages m p) 128) (inserted m p (place (mappedOf m p) (x .page .0)) (mappedPages m p) x) m
 

@@ -25,7 +25,7 @@ fileIn l i = record { readable = getD l (i * 3) 0; offset = getD l (i * 3 + 1) 0
 unfoldable pub filesOf : List ℕ → List File
 filesOf l = rows (fileIn l) (length l / 3)
 
--- "a frame length that doesn't fit is BadTable": so are words of another number than the tables take, and a list of files that is no multiple of three words
+-- a frame length that does not fit is BadTable (RULES W5): so are words of another number than the tables take, and a list of files that is no multiple of three words
 abbrev pub lengthsFit : List ℕ → List ℕ → Bool
 lengthsFit words files = eqb (length words) wordCount && eqb (length files % 3) 0
 

@@ -16,7 +16,7 @@ module _ {A : Type 0} (s : State) (refusal : Refusal → A) (tests : List (Bool 
   unfolding guarded firstOf
   guarded-first b e = ap (λ (x : Bool). decided (cond (not x) (No BadTable) (firstOf tests)) refusal s t) e
 
-  -- "lent machine breaks R1 to R6"
+  -- the lent machine breaks R1 to R6 (RULES E1)
   pub unsound : soundb s ≡ false → guarded s refusal tests t ≡ leaving (refusal BadTable) s
   unsound e = guarded-first false e
 

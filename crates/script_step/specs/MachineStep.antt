@@ -38,7 +38,7 @@ use Rattle.script_step.specs.declared.asked.Asked.the-variants as asked
 use Rattle.script_step.specs.declared.asked.MachineCall.{MachineCall}
 use Rattle.script_step.specs.declared.asked.MachineCall.the-variants as machine
 
--- "Creation takes a given page-aligned start or the lowest free one"
+-- creation takes a given page-aligned start or the lowest free one (RULES C3)
 unfoldable pub placeOf : Spot → Place
 placeOf (spot.At start) = place.At (record { 0 = start })
 placeOf spot.Any = place.Lowest
@@ -113,7 +113,7 @@ abbrev pub startedAs : Machine → ℕ → Done → Stepped
 startedAs m count done.Yes = record { said = said.Answer answer.Done; machine = record { started = true; frames = count * 4096; files = m .files; bytes = m .bytes } }
 startedAs m count (done.No why) = says m (said.Answer (answer.Refused why))
 
--- "a frame length that doesn't fit is BadTable": so are more frames than there is memory for, which change nothing
+-- a frame length that does not fit is BadTable (RULES W5): so are more frames than there is memory for, which change nothing
 pub record Began (m : Machine) (count : ℕ) (words frames files rows words' : List ℕ) (r : Stepped) : Type 0 where
   pub outcome : Done
   pub is : r ≡ startedAs m count outcome

@@ -35,7 +35,7 @@ pub enum Asked {
     // A blank line or a comment.
     Nothing,
     Bad(Fault),
-    // A call of document 01 that the machine does not have yet.
+    // A call of the rules that the machine does not have yet.
     NotYet(Word),
     Lone(LoneCall),
     File(bool, Word),

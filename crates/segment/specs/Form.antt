@@ -20,23 +20,23 @@ lastOf s = startOf s + (s .len - 1)
 abbrev pub emptyb : Segment → Bool
 emptyb s = eqb (s .len) 0
 
--- document 01, "Segments": "An arena or non-empty segment must lie in one canonical half, last byte included, and may end at 2^64 - 1";
+-- RULES S2: an arena or non-empty segment lies in one canonical half, its last byte included, and may end at 2^64 - 1;
 -- here of a start that is canonical
 unfoldable pub inHalf : Segment → Bool
 inHalf s = cond (ltb (startOf s) (2 ^ 47)) (ltb (lastOf s) (2 ^ 47)) (ltb (lastOf s) (2 ^ 64))
 
--- the test of form: BadAddress, then BadRange ("otherwise BadRange"); an empty one needs its start alone
+-- the test of form: BadAddress, then BadRange (RULES E3, S2); an empty one needs its start alone
 unfoldable pub formOf : Segment → Answered
 formOf s = cond (canonical (startOf s)) (cond (emptyb s) Done (cond (inHalf s) Done (Refused BadRange))) (Refused BadAddress)
 
 abbrev pub sameb : Segment → Segment → Bool
 sameb a b = eqb (startOf a) (startOf b) && eqb (a .len) (b .len)
 
--- "Segments list by start, then length"
+-- segments list by start, then length (RULES S13)
 abbrev pub beforeb : Segment → Segment → Bool
 beforeb a b = ltb (startOf a) (startOf b) || (eqb (startOf a) (startOf b) && ltb (a .len) (b .len))
 
--- a byte from `first` to `last` is the segment's; "Empty segments never overlap" (the Rust's find_overlapping_at)
+-- a byte from `first` to `last` is the segment's; empty segments never overlap (RULES S10; the Rust's find_overlapping_at)
 abbrev pub overb : Segment → ℕ → ℕ → Bool
 overb s first last = not (emptyb s) && (leb first (lastOf s) && leb (startOf s) last)
 

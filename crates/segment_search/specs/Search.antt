@@ -1,4 +1,4 @@
--- The lowest free start: document 01, "The search starts over just past the segment in its way".
+-- The lowest free start: the search starts over just past the segment in its way (RULES S7).
 use mathlib.Core.Bool.{Bool, true, false, not, _&&_, cond}
 use mathlib.Core.List.{List, [], _∷_}
 use Prim.Native.Nat.{ℕ, zero, suc, _+_, _-_}

@@ -1,4 +1,4 @@
--- Document 01's number and values for each answer of a manager's call: 0 and the values, or "its number and zero elsewhere".
+-- The number and values for each answer of a manager's call: 0 and the values, or the refusal's number and zero elsewhere (RULES O1, X11).
 use mathlib.Core.List.{List, [], _∷_}
 use Prim.Native.Nat.{ℕ}
 use Rattle.answers.specs.Number.{numberOf}

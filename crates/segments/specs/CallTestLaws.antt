@@ -33,7 +33,7 @@ first-tells first last (x ∷ t) =
     by-test (overb x first last) (λ e. rw e (record { yes = λ y. inl (over-tells x first last .yes e); no = λ n. absurd (mathlib.Core.Bool.true≢false n) }))
     (λ e. rw e (tells-as (λ p. inr p) (⊎-elim (λ o. absurd (over-tells x first last .no e o)) (λ p. p)) (first-tells first last t)))
 
--- "Empty segments never overlap"
+-- empty segments never overlap (RULES S10)
 pub overlaps-tells : (s : Segment) (t : List Segment) → Tells (overlapsb t s) ((s .len ≡ 0 → ⊥) × Any (λ x. Over x (startOf s) (lastOf s)) t)
 unfolding overlapsb
 overlaps-tells s t = tells-both (tells-not (tells-eq (s .len) 0)) (first-tells (startOf s) (lastOf s) t)

@@ -33,7 +33,7 @@ use Rattle.segment_search.specs.Search.{firstOver, search}
 abbrev pub segment : ℕ → ℕ → Segment
 segment start len = record { start = record { 0 = start }; len = len }
 
--- ---- a new manager: the Rust's VirtualMemoryManager::new; "An arena of size 0 is allowed"
+-- ---- a new manager: the Rust's VirtualMemoryManager::new; an arena of size 0 is allowed (RULES S3)
 
 abbrev pub newAs : Answered → VirtAddr → ℕ → NewAnswer
 newAs Done start size = record { answer = Done; manager = empty start size }
@@ -42,12 +42,12 @@ newAs (Refused r) start size = record { answer = Refused r; manager = empty (rec
 unfoldable pub newCall : VirtAddr → ℕ → NewAnswer
 newCall start size = newAs (formOf (record { start = start; len = size })) start size
 
--- ---- reserving: "Reserving 0 bytes, or more than the arena, gives NoSpace. Otherwise the answer is the lowest free start"
+-- ---- reserving: 0 bytes, or more than the arena, is NoSpace (RULES S4); otherwise the answer is the lowest free start (S5)
 
 unfoldable pub lowest : VirtualMemoryManager → ℕ → Search
 lowest m len = cond (eqb len 0 || ltb (m .«mem_size») len) Full (search (held m) (lastOf (arena m)) len (startOf (arena m)) 0)
 
--- "NoSpace exactly if there is none. With 64 segments held and a start free: TableFull"
+-- NoSpace exactly if there is none (RULES S5); with 64 segments held and a start free: TableFull (S6)
 abbrev pub reserveAt : VirtualMemoryManager → ℕ → Search → ReserveAnswer
 reserveAt m len Full = record { answer = reserved.Refused NoSpace; manager = m }
 reserveAt m len (Free start restarts) =
@@ -57,9 +57,9 @@ reserveAt m len (Free start restarts) =
 unfoldable pub reserveCall : VirtualMemoryManager → ℕ → ReserveAnswer
 reserveCall m len = cond (soundb m) (reserveAt m len (lowest m len)) (record { answer = reserved.Refused BadTable; manager = m })
 
--- ---- marking: "Marking doesn't ask that the segment lie in the arena"
+-- ---- marking: the segment need not lie in the arena (RULES S9)
 
--- the table's rule, then "the same test of form"
+-- the table's rule, then the same test of form (RULES S11, S12)
 unfoldable pub checkedBy : VirtualMemoryManager → Segment → Answered
 checkedBy m s = cond (soundb m) (formOf s) (Refused BadTable)
 
@@ -67,11 +67,11 @@ abbrev pub isIn : Found → Bool
 isIn (found.In s) = true
 isIn found.Nothing = false
 
--- "Empty segments never overlap"
+-- empty segments never overlap (RULES S10)
 unfoldable pub overlapsb : List Segment → Segment → Bool
 overlapsb t s = not (emptyb s) && isIn (firstOver t (startOf s) (lastOf s))
 
--- "marking one twice succeeds and stores it once"
+-- marking an empty one twice succeeds and stores it once (RULES S10)
 abbrev pub markAs : Answered → VirtualMemoryManager → Segment → MarkAnswer
 markAs (Refused r) m s = record { answer = Refused r; manager = m }
 markAs Done m s =
@@ -83,7 +83,7 @@ markAs Done m s =
 unfoldable pub markCall : VirtualMemoryManager → Segment → MarkAnswer
 markCall m s = markAs (checkedBy m s) m s
 
--- ---- releasing: "Release says yes or no, after the same test of form"
+-- ---- releasing: yes or no, after the same test of form (RULES S11)
 
 abbrev pub releaseAs : Answered → VirtualMemoryManager → Segment → ReleaseAnswer
 releaseAs (Refused r) m s = record { answer = released.Refused r; manager = m }
@@ -96,7 +96,7 @@ releaseCall m s = releaseAs (checkedBy m s) m s
 
 -- ---- splitting: the Rust's VirtualMemoryManager::split; of several refusals the lowest number
 
--- InvalidSplitPoint: "not a page strictly inside"
+-- InvalidSplitPoint: not a page strictly inside (RULES E10)
 unfoldable pub insideb : Segment → VirtAddr → Bool
 insideb s at = aligned (at .0) && (ltb (startOf s) (at .0) && ltb (at .0 - startOf s) (s .len))
 
@@ -124,7 +124,7 @@ splitAs Done m s at =
 unfoldable pub splitCall : VirtualMemoryManager → Segment → VirtAddr → SplitAnswer
 splitCall m s at = splitAs (splitPoint m s at) m s at
 
--- ---- the list: "Segments list by start, then length"; zeros after them
+-- ---- the list: by start, then length (RULES S13); zeros after them
 
 unfoldable pub listCall : VirtualMemoryManager → ListAnswer
 listCall m =

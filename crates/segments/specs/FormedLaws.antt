@@ -16,7 +16,7 @@ use Rattle.segments.specs.Table.{Formed}
 use Rattle.segment_search.specs.TriesLaws.{by-test}
 use Rattle.segments.specs.RuleLaws.{formed-tells}
 
--- document 01, "Segments": "An arena or non-empty segment must lie in one canonical half, last byte included, and may end at 2^64 - 1";
+-- RULES S2: an arena or non-empty segment lies in one canonical half, its last byte included, and may end at 2^64 - 1;
 -- an empty one has a canonical start
 abbrev pub OneHalf : Segment → Type 0
 OneHalf s = ((startOf s < 2 ^ 47) × ((s .len ≡ 0) ⊎ (lastOf s < 2 ^ 47))) ⊎ ((2 ^ 64 - 2 ^ 47 ≤ startOf s) × ((s .len ≡ 0) ⊎ (lastOf s < 2 ^ 64)))

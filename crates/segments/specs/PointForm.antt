@@ -4,7 +4,7 @@ use mathlib.Core.List.{List, [], _∷_}
 use Prim.Native.Nat.{ℕ}
 use lib.Dec.{eqb}
 
--- a call, and document 01's number and values that it must answer
+-- a call, and the number and values (RULES E, O1) that it must answer
 pub record Step (C : Type 0) : Type 0 where
   pub call : C
   pub answer : List ℕ

@@ -1,4 +1,4 @@
--- Document 01, "Points beside each edge", P1 to P6: one table, computed.
+-- RULES P1 to P6: one table, computed.
 use mathlib.Core.Path.{_≡_, refl}
 use mathlib.Core.Bool.{true}
 use mathlib.Core.List.{List, [], _∷_, _++_}
@@ -19,11 +19,11 @@ ok = 0 ∷ []
 abbrev pub step : Call → List ℕ → Step Call
 step c a = record { call = c; answer = a }
 
--- "Arena 0x10000, size 0x10000, marked (0x11000, 0x1000) and (0x13000, 0x2000), afresh for each": one call more, its answer, and the table after it
+-- the manager of RULES P1 to P5, afresh for each: one call more, its answer, and the table after it
 abbrev pub beside : Call → List ℕ → List ℕ → Row Call
 beside c a after = record { steps = step (new 0x10000 0x10000) ok ∷ step (mark 0x11000 0x1000) ok ∷ step (mark 0x13000 0x2000) ok ∷ step c a ∷ []; after = after }
 
--- "P6 Arena 0xFFFF800000000000, size 2^47, marked (0xFFFFFFFF80000000, 0x80000000)"
+-- the manager of RULES P6
 abbrev pub beside6 : Call → List ℕ → List ℕ → Row Call
 beside6 c a after = record { steps = step (new 0xFFFF800000000000 (2 ^ 47)) ok ∷ step (mark 0xFFFFFFFF80000000 0x80000000) ok ∷ step c a ∷ []; after = after }
 

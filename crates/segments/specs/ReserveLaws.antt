@@ -1,5 +1,5 @@
 -- What reserving answers, case by case.
--- Document 01: "Reserving 0 bytes, or more than the arena, gives NoSpace. Otherwise the answer is the lowest free start, NoSpace exactly if there is none. With 64 segments held and a start free: TableFull."
+-- RULES S4 to S6: 0 bytes or more than the arena are NoSpace; otherwise the lowest free start, NoSpace exactly if there is none; TableFull with 64 held and a start free.
 use mathlib.Core.Path.{_≡_, refl}
 use Prim.Native.Nat.{ℕ, _≤_, _<_}
 use borrow.Author.Tests.{le-leb, lt-leb}

@@ -136,7 +136,7 @@ walk-tells (s ∷ t) started prev r = tells-as join split (tells-both (follows-t
       },
     )
 
--- document 01's rule of a lone manager's table is what the test tells
+-- the rule of a lone manager's table (RULES S12) is what the test tells
 pub sound-tells : (m : VirtualMemoryManager) → Tells (soundb m) (Rule m)
 unfolding soundb
 sound-tells m = tells-as join split (tells-both (formed-tells (arena m)) (tells-both (tells-le (m .count) 64) (walk-tells (held m) false noSegment noReach)))

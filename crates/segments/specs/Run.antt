@@ -1,4 +1,4 @@
--- The calls of a lone manager as one kind of call: what each answers, by document 01's numbers, and the manager that it leaves.
+-- The calls of a lone manager as one kind of call: what each answers, by the refusals' numbers (RULES E), and the manager that it leaves.
 use mathlib.Core.List.{List, [], _∷_}
 use Prim.Native.Nat.{ℕ}
 use Rattle.segment.specs.declared.Segment.{Segment}

@@ -1,4 +1,4 @@
-// The calls of a lone manager: each takes any manager and any arguments, tests the table first, and answers by document 01.
+// The calls of a lone manager: each takes any manager and any arguments, tests the table first, and answers by the rules (RULES S).
 ghost use mathlib.Core.Path.{_≡_};
 ghost use mathlib.Core.Bool.{true};
 ghost use Rattle.segment.specs.declared.Answered.the-variants.{Done};

@@ -1,5 +1,5 @@
 // The segment manager for C and Rust programs, on words that the caller lends (include/segments.h): arena start, arena size,
-// count, and 64 rows of start and length. Each call answers 0, or document 01's number of a refusal, and sets all four words of
+// count, and 64 rows of start and length. Each call answers 0, or the number of a refusal (RULES E), and sets all four words of
 // `out`. A refusal leaves the manager's words as they were; so does a slice of another length, whose answer is 1, BadTable.
 ghost use mathlib.Core.Path.{_≡_};
 ghost use mathlib.Core.List.{[]};

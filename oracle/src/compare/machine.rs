@@ -34,7 +34,7 @@ impl fmt::Display for Totals {
 
 /// Compares at least `calls` calls, those of the domain alone counted, of sequences drawn from
 /// `seed`. A sequence goes on past an answer that ends a comparison with the Rust: from there on
-/// our reading of document 01 is compared with itself, in two programs.
+/// our reading of the rules is compared with itself, in two programs.
 ///
 /// # Errors
 /// The shortest script found on which the two differ.

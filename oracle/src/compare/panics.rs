@@ -1,4 +1,4 @@
-//! Looks for panics of the Rust outside document 01's domain, with the smallest script of each.
+//! Looks for panics of the Rust outside the domain (RULES A5), with the smallest script of each.
 
 use std::collections::BTreeMap;
 

@@ -98,7 +98,7 @@ fn refusal(error: CloneRegionError) -> Refusal {
         CloneRegionError::SegmentReserved => Refusal::SegmentReserved,
         CloneRegionError::OutOfMemory => Refusal::OutOfMemory,
         CloneRegionError::RemapFailed | CloneRegionError::MapFailed => {
-            unreachable!("document 01: it has no cause")
+            unreachable!("it has no cause: RULES W10")
         }
     }
 }

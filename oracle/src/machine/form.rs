@@ -1,4 +1,4 @@
-//! Document 01's tests of form for the machine's arguments.
+//! The rules' tests of form for the machine's arguments (RULES E3 to E6).
 
 use crate::answer::Refusal;
 use crate::calls::{Create, Kind};

@@ -1,4 +1,4 @@
-//! The machine of document 01, answered by the kernel's mem.rs: processes, frames, files, pins, and
+//! The machine of the rules, answered by the kernel's mem.rs: processes, frames, files, pins, and
 //! the refusals that the kernel does not have.
 
 mod bytes;
@@ -33,9 +33,9 @@ pub struct Machine {
     frames: usize,
     processes: [Option<Process>; PROCESSES],
     files: Vec<VfsNode>,
-    /// Where the kernel zeroes an eager region, which document 01 leaves unmapped.
+    /// Where the kernel zeroes an eager region, which the rules leave unmapped (RULES C10).
     creation: AddressSpace,
-    /// An unguarded machine hands even what document 01 refuses to the kernel.
+    /// An unguarded machine hands even what the rules refuse to the kernel.
     guarded: bool,
 }
 

@@ -72,7 +72,7 @@ impl Machine {
         match region.set_protection(&process.space, flags) {
             Ok(()) => Ok(Answer::done()),
             Err(SetProtectionError::UnsupportedRegion) => Err(Refusal::UnsupportedRegion),
-            Err(SetProtectionError::RemapFailed) => unreachable!("document 01: it has no cause"),
+            Err(SetProtectionError::RemapFailed) => unreachable!("it has no cause: RULES W10"),
         }
     }
 

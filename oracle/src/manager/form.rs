@@ -1,4 +1,4 @@
-//! Document 01's test of form for a lone manager: canonical addresses, one half, no wrap.
+//! The test of form for a lone manager (RULES E3, S2): canonical addresses, one half, no wrap.
 
 use crate::answer::Refusal;
 use crate::calls::ManagerCall;

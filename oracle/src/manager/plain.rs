@@ -1,4 +1,4 @@
-//! A manager of our own, written from document 01 alone and not from the Rust: it looks at every
+//! A manager of our own, written from the rules alone and not from the Rust: it looks at every
 //! start that can be lowest, and counts what the search has passed. It can be made wrong in one
 //! place, to show that a comparison finds it.
 

@@ -1,4 +1,4 @@
-//! The kernel's own manager, unchanged, behind document 01's form test and table limit.
+//! The kernel's own manager, unchanged, behind the test of form (RULES S2) and table limit (N2).
 
 use kernel_virtual_memory::{Segment, SplitSegmentError, VirtualMemoryManager};
 use x86_64::VirtAddr;

@@ -1,4 +1,4 @@
-//! A machine of our own, written from document 01 alone and not from the Rust. It stores no holder
+//! A machine of our own, written from the rules alone and not from the Rust. It stores no holder
 //! counts and no free frames: both are counted afresh from the regions each time. It can be made
 //! wrong in one place, to show that a comparison finds it.
 

@@ -75,13 +75,13 @@ impl ProvedMachine {
     /// Opens a process and answers its number.
     ///
     /// # Errors
-    /// The refusal of document 01.
+    /// The refusal of the rules (RULES E).
     pub fn open(&mut self, start: u64, size: u64) -> Result<u64, Refusal> {
         self.one(&MachineCall::Open { start, size })
     }
 
     /// # Errors
-    /// The refusal of document 01.
+    /// The refusal of the rules (RULES E).
     pub fn close(&mut self, p: u64) -> Result<(), Refusal> {
         self.none(&MachineCall::Close { p })
     }
@@ -89,7 +89,7 @@ impl ProvedMachine {
     /// Creates a region of any kind and answers its start.
     ///
     /// # Errors
-    /// The refusal of document 01.
+    /// The refusal of the rules (RULES E).
     pub fn create(&mut self, create: &Create) -> Result<u64, Refusal> {
         self.one(&MachineCall::Create(create.clone()))
     }
@@ -97,7 +97,7 @@ impl ProvedMachine {
     /// The start of the attached region at an address.
     ///
     /// # Errors
-    /// The refusal of document 01.
+    /// The refusal of the rules (RULES E).
     pub fn region(&mut self, p: u64, addr: u64) -> Result<u64, Refusal> {
         self.one(&MachineCall::Region { p, addr })
     }
@@ -105,7 +105,7 @@ impl ProvedMachine {
     /// The starts of the attached regions, in list order.
     ///
     /// # Errors
-    /// The refusal of document 01.
+    /// The refusal of the rules (RULES E).
     pub fn regions(&mut self, p: u64) -> Result<Vec<u64>, Refusal> {
         let mut out = [u64::MAX; LIST];
         self.settle(&MachineCall::Regions { p }, &mut out)?;
@@ -121,7 +121,7 @@ impl ProvedMachine {
     /// Whether every address from `start` up to `end` lies in an attached region.
     ///
     /// # Errors
-    /// The refusal of document 01.
+    /// The refusal of the rules (RULES E).
     pub fn covers(&mut self, p: u64, start: u64, end: u64) -> Result<bool, Refusal> {
         let verdict = self.one(&MachineCall::Covers { p, start, end })?;
         if verdict > 1 {
@@ -131,7 +131,7 @@ impl ProvedMachine {
     }
 
     /// # Errors
-    /// The refusal of document 01.
+    /// The refusal of the rules (RULES E).
     pub fn load(&mut self, p: u64, addr: u64) -> Result<u8, Refusal> {
         let byte = self.one(&MachineCall::Load { p, addr })?;
         u8::try_from(byte).or_else(|_| {
@@ -141,7 +141,7 @@ impl ProvedMachine {
     }
 
     /// # Errors
-    /// The refusal of document 01.
+    /// The refusal of the rules (RULES E).
     pub fn store(&mut self, p: u64, addr: u64, byte: u8) -> Result<(), Refusal> {
         self.none(&MachineCall::Store { p, addr, byte })
     }

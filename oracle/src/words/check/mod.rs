@@ -1,4 +1,4 @@
-//! R1 to R6 of document 01 over lent words, sentence by sentence and without haste: each rule is
+//! R1 to R6 of docs/RULES.md over lent words, sentence by sentence and without haste: each rule is
 //! asked for itself, over any words, and none leans on another. Nothing here knows the proved code.
 
 mod records;
