@@ -36,7 +36,7 @@ use Rattle.laws.specs.InListsLaws.{keep-in}
 use Rattle.keeping.specs.Owing.{Owing, Backs, rowAt, entryAt, nothing}
 use Rattle.keeping.specs.OwingOfSound.{sound-owing}
 use Rattle.keeping.specs.OrderKept.{order-other}
-use Rattle.keeping.specs.Named.{is-open}
+use Rattle.keeping.specs.ArgumentLaws.{is-open}
 use Rattle.keeping.specs.CutKept.{given, given-at, Gives, gives}
 use Rattle.keeping.specs.CutKept.Gives.{gone, stays}
 use Rattle.keeping.specs.CarveKept as carving

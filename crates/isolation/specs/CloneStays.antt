@@ -30,7 +30,7 @@ use Rattle.keeping.specs.GuardedKept.{Passed, passed}
 use Rattle.laws.specs.In.{In}
 use Rattle.laws.specs.InListsLaws.{in-keep, keep-in}
 use Rattle.keeping.specs.OwingOfSound.{sound-owing}
-use Rattle.keeping.specs.Named.{named-at, is-open}
+use Rattle.keeping.specs.ArgumentLaws.{named-at, is-open}
 use Rattle.keeping.specs.CloneKept.{clone-core}
 use Rattle.isolation.specs.Statements.{Stays}
 use Rattle.isolation.specs.ViewLaws.{home-at, private-home}

@@ -30,7 +30,7 @@ use Rattle.keeping.specs.OwingLaws.{open-low}
 use Rattle.keeping.specs.BackingsKept.{FreeRun}
 use Rattle.keeping.specs.FreeLaws.{lowest-run}
 use Rattle.keeping.specs.OrderKept.{order-other, order-reads, mapped-order}
-use Rattle.keeping.specs.Named.{is-open}
+use Rattle.keeping.specs.ArgumentLaws.{is-open}
 use Rattle.laws.specs.InListsLaws.{few-below}
 use Rattle.keeping.specs.AddedKept.{free-slot}
 use Rattle.keeping.specs.CreateKept.{create-private-kept, create-file-kept, create-shared-kept}

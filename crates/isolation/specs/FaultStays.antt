@@ -46,7 +46,7 @@ use Rattle.keeping.specs.PagesKept.{base-used}
 use Rattle.keeping.specs.BackingsKept.{FreeRun, backing-within}
 use Rattle.keeping.specs.FreeLaws.{next-run}
 use Rattle.keeping.specs.EntriesKept.{entryOn, free-row}
-use Rattle.keeping.specs.Named.{Named, named-at}
+use Rattle.keeping.specs.ArgumentLaws.{Named, named-at}
 use Rattle.keeping.specs.LetGoLaws.{lends-let-go}
 use Rattle.keeping.specs.FrameLengthLaws.{bytes-length, fill-length}
 use Rattle.keeping.specs.FaultWayLaws.{Right, way-right}

@@ -19,7 +19,7 @@ use Rattle.laws.specs.In.{In}
 use Rattle.laws.specs.InLaws.{in-at, in-row}
 use Rattle.keeping.specs.Owing.{Owing, nothing}
 use Rattle.keeping.specs.BacksLaws.{source-of}
-use Rattle.keeping.specs.ViewLaws.{home-listed}
+use Rattle.keeping.specs.HomesLaws.{home-listed}
 use Rattle.keeping.specs.OwingOfSound.{sound-owing}
 use Rattle.keeping.specs.CallsKept.{run-kept}
 use Rattle.isolation.specs.Statements.{Alone, MappedRight, Demand3, OneSideWritable, Guarantee, Demand3Whole}

@@ -26,7 +26,7 @@ use Rattle.keeping.specs.Owing.{Owing, Backs, Holds, rowAt, entryAt, nothing}
 use Rattle.model.specs.HolderLaws.{weight-free, weight-taken}
 use Rattle.model.specs.Holders.{entryHold, rangeHold, weight, entryTaken, rangeTaken, oneIf}
 use Rattle.keeping.specs.BacksLaws.{source-of, entry-found}
-use Rattle.keeping.specs.ViewLaws.{held-some}
+use Rattle.keeping.specs.HomesLaws.{held-some}
 use Rattle.keeping.specs.EntriesKept.{entryOn, entry-counts}
 use Rattle.keeping.specs.SlotsKept.{row-counts}
 use Rattle.isolation.specs.Statements.{Alone, OwnPage}

@@ -33,7 +33,7 @@ use Rattle.keeping.specs.Owing.{Owing, nothing}
 use Rattle.keeping.specs.OwingOfSound.{sound-owing}
 use Rattle.keeping.specs.OwingLaws.{open-low, listed-open}
 use Rattle.keeping.specs.OpenKept.{open-kept}
-use Rattle.keeping.specs.Named.{named-at, found-at, is-open}
+use Rattle.keeping.specs.ArgumentLaws.{named-at, found-at, is-open}
 use Rattle.keeping.specs.PinKept.{pin-kept}
 use Rattle.keeping.specs.ProtectKept.{protect-kept}
 use Rattle.keeping.specs.RemovalKept.{remove-core, still-listed, any-found, remove-kept, clear-kept, unpin-kept}

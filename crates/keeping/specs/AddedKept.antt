@@ -26,7 +26,7 @@ use Rattle.keeping.specs.OwingLaws.{open-low, listed-row, slot-pinned}
 use Rattle.keeping.specs.AlikeLaws.{limits-pins}
 use Rattle.keeping.specs.SlotsKept.{owes, slot-put}
 use Rattle.keeping.specs.OrderKept.{order-reads, order-other, opened-same, order-kept}
-use Rattle.keeping.specs.Named.{found-at}
+use Rattle.keeping.specs.ArgumentLaws.{found-at}
 use Rattle.keeping.specs.PinKept.{pins-kept}
 
 -- the lowest free slot is one of the 64, and free

@@ -16,7 +16,7 @@ use Rattle.laws.specs.SetLaws.{row-there, each-row}
 use Rattle.laws.specs.In.{In}
 use Rattle.keeping.specs.Owing.{rowAt, entryAt, Backs, Placed, Owing, Holds}
 use Rattle.model.specs.Holders.{entryHold, rangeHold, oneIf}
-use Rattle.keeping.specs.ViewLaws.{held-some, hold-used}
+use Rattle.keeping.specs.HomesLaws.{held-some, hold-used}
 use Rattle.keeping.specs.AlikeLaws.{alike-same, fits-as, entry-as, placed-as, sizes-as}
 use Rattle.keeping.specs.PagesKept.{base-used}
 

@@ -37,7 +37,7 @@ use Rattle.keeping.specs.Owing.{rowAt, Owing, nothing}
 use Rattle.keeping.specs.OwingLaws.{open-low, listed-open, slot-pinned}
 use Rattle.keeping.specs.OrderKept.{order-kept, opened-same}
 use Rattle.keeping.specs.GuardedKept.{Passed, passed, guarded-kept}
-use Rattle.keeping.specs.Named.{is-open}
+use Rattle.keeping.specs.ArgumentLaws.{is-open}
 use Rattle.keeping.specs.CoreKept.{Lends, lends-then, machine-kept}
 use Rattle.keeping.specs.AddedKept.{free-slot}
 use Rattle.keeping.specs.SplitKept.{Splits, split-kept}

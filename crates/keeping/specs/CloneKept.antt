@@ -27,7 +27,7 @@ use Rattle.keeping.specs.Owing.{Owing, nothing}
 use Rattle.keeping.specs.OwingOfSound.{sound-owing, sound-lent}
 use Rattle.keeping.specs.SoundOfOwing.{owing-sound}
 use Rattle.keeping.specs.GuardedKept.{Passed, passed, guarded-kept}
-use Rattle.keeping.specs.Named.{named-at, is-open}
+use Rattle.keeping.specs.ArgumentLaws.{named-at, is-open}
 use Rattle.keeping.specs.CoreKept.{lent-as}
 use Rattle.keeping.specs.Grows.{Grows, grows-same}
 use Rattle.keeping.specs.CloneShareKept as sharing

@@ -32,7 +32,7 @@ use Rattle.model.specs.Holders.{rangeHold}
 use Rattle.keeping.specs.OwingLaws.{open-low, listed-open, home-one, unowned}
 use Rattle.keeping.specs.AlikeLaws.{limits-pins, limits-as, placed-with, alike-same}
 use Rattle.keeping.specs.MappedKept.{opened-same}
-use Rattle.keeping.specs.PageOrderLaws.{in-remap, remapped}
+use Rattle.keeping.specs.MapOrderLaws.{in-remap, remapped}
 use Rattle.keeping.specs.PagesKept.{few-pages, remap-kept}
 use Rattle.keeping.specs.BackingsKept.{more, hold-kept}
 use Rattle.keeping.specs.SlotsKept.{owes, owes-range, owes-nothing}

@@ -30,7 +30,7 @@ use Rattle.keeping.specs.Owing.{Owing, nothing}
 use Rattle.keeping.specs.OwingLaws.{open-low, slot-pinned}
 use Rattle.keeping.specs.ProcessesKept.{process-kept}
 use Rattle.keeping.specs.GuardedKept.{guarded-kept}
-use Rattle.keeping.specs.Named.{is-open}
+use Rattle.keeping.specs.ArgumentLaws.{is-open}
 use Rattle.keeping.specs.CoreKept.{Lends, machine-kept}
 use Rattle.keeping.specs.DropKept.{gone-books}
 use Rattle.keeping.specs.RemovalKept.{remove-core, remove-order, still-listed, clear-core, clear-lends}

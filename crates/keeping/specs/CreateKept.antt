@@ -32,7 +32,7 @@ use Rattle.keeping.specs.SlotsKept.{owes-range, owes-nothing}
 use Rattle.keeping.specs.FreeLaws.{lowest-run}
 use Rattle.keeping.specs.FrameLengthLaws.{zero-length, lent-frames}
 use Rattle.keeping.specs.GuardedKept.{Passed, guarded-kept}
-use Rattle.keeping.specs.Named.{found-at, is-open}
+use Rattle.keeping.specs.ArgumentLaws.{found-at, is-open}
 use Rattle.keeping.specs.CoreKept.{lent-as}
 use Rattle.keeping.specs.AddedKept.{Added, added-kept}
 use Rattle.keeping.specs.SpotLaws.{Room, spot-room, clear-apart}

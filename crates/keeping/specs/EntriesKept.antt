@@ -22,10 +22,10 @@ use Rattle.keeping.specs.Owing.{rowAt, entryAt, Backs, Placed, Owing, Ho
 use Rattle.model.specs.HolderLaws.{holding-put, holders-split, weight-free, weight-taken}
 use Rattle.model.specs.Holders.{entryHold, oneIf, weight, entryTaken}
 use Rattle.keeping.specs.OwingLaws.{taken-there}
-use Rattle.keeping.specs.ViewLaws.{agree-more}
+use Rattle.keeping.specs.HomesLaws.{agree-more}
 use Rattle.keeping.specs.AlikeLaws.{alike-same, fits-as, entry-as, pool-as, sizes-as, by-entry-as}
 use Rattle.keeping.specs.BackingsKept.{more}
-use Rattle.keeping.specs.Named.{found-at}
+use Rattle.keeping.specs.ArgumentLaws.{found-at}
 
 -- no process maps a page of the region at a row
 abbrev pub Unmapped : Machine → ℕ → ℕ → Type 0

@@ -41,13 +41,13 @@ use Rattle.keeping.specs.OwingOfSound.{sound-owing, sound-lent}
 use Rattle.keeping.specs.SoundOfOwing.{owing-sound}
 use Rattle.keeping.specs.AlikeLaws.{placed-with, alike-same}
 use Rattle.keeping.specs.MappedKept.{mapped-kept}
-use Rattle.keeping.specs.PageOrderLaws.{in-mapped, rising-map, remapped}
+use Rattle.keeping.specs.MapOrderLaws.{in-mapped, rising-map, remapped}
 use Rattle.keeping.specs.PagesKept.{few-pages, base-used, remap-kept}
 use Rattle.keeping.specs.BackingsKept.{backing-within}
 use Rattle.keeping.specs.FreeLaws.{next-run}
 use Rattle.keeping.specs.FrameLengthLaws.{bytes-length, put-length, fill-length, lent-frames}
 use Rattle.keeping.specs.GuardedKept.{Passed, passed, guarded-kept}
-use Rattle.keeping.specs.Named.{Named, named-at}
+use Rattle.keeping.specs.ArgumentLaws.{Named, named-at}
 use Rattle.keeping.specs.CoreKept.{Lends, lent-as, machine-kept}
 use Rattle.keeping.specs.LetGoLaws.{lends-let-go}
 use Rattle.keeping.specs.FaultWayLaws.{Right, way-right}

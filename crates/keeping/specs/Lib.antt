@@ -5,13 +5,13 @@
 pub mod Owing
 pub mod OwingLaws
 pub mod BacksLaws
-pub mod ViewLaws
+pub mod HomesLaws
 pub mod OwingOfSound
 pub mod SoundOfOwing
 pub mod AlikeLaws
 -- one table changed: the primitive laws
 pub mod MappedKept
-pub mod PageOrderLaws
+pub mod MapOrderLaws
 pub mod PagesKept
 pub mod BackingsKept
 pub mod SlotsKept
@@ -25,7 +25,7 @@ pub mod FrameLengthLaws
 pub mod GuardedKept
 pub mod CoreKept
 pub mod LetGoLaws
-pub mod Named
+pub mod ArgumentLaws
 -- calls that look, open, pins, protection
 pub mod LookingKept
 pub mod PinKept

@@ -20,7 +20,7 @@ use Rattle.model.specs.FoundRowLaws.{first-found}
 use Rattle.keeping.specs.Owing.{Owing, nothing}
 use Rattle.keeping.specs.ProcessesKept.{process-kept}
 use Rattle.keeping.specs.GuardedKept.{guarded-kept}
-use Rattle.keeping.specs.Named.{found-at}
+use Rattle.keeping.specs.ArgumentLaws.{found-at}
 use Rattle.keeping.specs.CoreKept.{machine-kept}
 
 pub open-kept : (s : State) → Sound s → (a size : ℕ) → Sound (step (Call.openProcess a size) s)

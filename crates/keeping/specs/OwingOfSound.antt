@@ -24,7 +24,7 @@ use Rattle.laws.specs.ListsLaws.{part-at, part-length}
 use Rattle.keeping.specs.Owing.{rowAt, entryAt, Arena, Placed, Holds, Agree, Owing, nothing, Lent}
 use Rattle.keeping.specs.OwingLaws.{apart-turn, taken-there, used-there}
 use Rattle.keeping.specs.BacksLaws.{source-of}
-use Rattle.keeping.specs.ViewLaws.{home-listed, in-holds, held-none, hold-used}
+use Rattle.keeping.specs.HomesLaws.{home-listed, in-holds, held-none, hold-used}
 
 -- a region's row by process and slot
 pub row-in-part : (m : Machine) (i : ℕ) → getD (regionsOf m (i / 64)) (i % 64) noRegion ≡ rowAt m i

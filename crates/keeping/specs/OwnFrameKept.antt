@@ -30,7 +30,7 @@ use Rattle.model.specs.Holders.{entryHold}
 use Rattle.keeping.specs.OwingLaws.{open-low, taken-there, listed-open}
 use Rattle.keeping.specs.BacksLaws.{entry-of, none-of}
 use Rattle.keeping.specs.MappedKept.{mapped-kept, mapped-again}
-use Rattle.keeping.specs.PageOrderLaws.{in-mapped, rising-map, in-unmapped, rising-unmap}
+use Rattle.keeping.specs.MapOrderLaws.{in-mapped, rising-map, in-unmapped, rising-unmap}
 use Rattle.keeping.specs.PagesKept.{pages-kept, pages-read}
 use Rattle.keeping.specs.BackingsKept.{more, FreeRun, held-used, claim-kept, let-go-kept}
 use Rattle.keeping.specs.EntriesKept.{Entry·new, entryOn, entry-kept, free-row, free-kept}

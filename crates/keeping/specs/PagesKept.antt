@@ -18,7 +18,7 @@ use Rattle.laws.specs.ListsLaws.{keep-most}
 use Rattle.keeping.specs.Owing.{Backs, Owing, Placed}
 use Rattle.keeping.specs.OwingLaws.{open-low}
 use Rattle.keeping.specs.MappedKept.{mapped-kept}
-use Rattle.keeping.specs.PageOrderLaws.{rising-keep, remapped, rising-remap, in-remap}
+use Rattle.keeping.specs.MapOrderLaws.{rising-keep, remapped, rising-remap, in-remap}
 
 module _ (d : ℕ → ℕ) (m : Machine) (o : Owing d m) where
   -- at most 128 pages are mapped

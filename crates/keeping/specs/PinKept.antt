@@ -21,7 +21,7 @@ use Rattle.keeping.specs.OwingLaws.{open-low, listed-row}
 use Rattle.keeping.specs.AlikeLaws.{limits-pins}
 use Rattle.keeping.specs.SlotsKept.{row-kept}
 use Rattle.keeping.specs.GuardedKept.{guarded-kept}
-use Rattle.keeping.specs.Named.{Named, named-at}
+use Rattle.keeping.specs.ArgumentLaws.{Named, named-at}
 use Rattle.keeping.specs.CoreKept.{machine-kept}
 
 -- another count of pins

@@ -32,11 +32,11 @@ use Rattle.keeping.specs.OwingLaws.{open-low, home-one, listed-open}
 use Rattle.keeping.specs.BacksLaws.{backing-of}
 use Rattle.keeping.specs.AlikeLaws.{Alike, fits-as, placed-as, placed-with}
 use Rattle.keeping.specs.MappedKept.{mapped-kept, mapped-again}
-use Rattle.keeping.specs.PageOrderLaws.{rising-remap, in-remap, remapped}
+use Rattle.keeping.specs.MapOrderLaws.{rising-remap, in-remap, remapped}
 use Rattle.keeping.specs.PagesKept.{few-pages, pages-kept, base-held, pages-read}
 use Rattle.keeping.specs.SlotsKept.{row-kept, rows-alike}
 use Rattle.keeping.specs.GuardedKept.{guarded-kept}
-use Rattle.keeping.specs.Named.{Named, named-at}
+use Rattle.keeping.specs.ArgumentLaws.{Named, named-at}
 use Rattle.keeping.specs.CoreKept.{machine-kept}
 
 -- flags without WRITABLE are not writable

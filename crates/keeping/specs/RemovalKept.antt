@@ -34,7 +34,7 @@ use Rattle.keeping.specs.AlikeLaws.{Alike, alike-is, contains-as}
 use Rattle.keeping.specs.PagesKept.{pages-kept, pages-read}
 use Rattle.keeping.specs.OrderKept.{order-reads, order-kept}
 use Rattle.keeping.specs.GuardedKept.{guarded-kept}
-use Rattle.keeping.specs.Named.{named-at, found-at, is-open}
+use Rattle.keeping.specs.ArgumentLaws.{named-at, found-at, is-open}
 use Rattle.keeping.specs.CoreKept.{Lends, lends-then, machine-kept}
 use Rattle.keeping.specs.PinKept.{pins-kept}
 use Rattle.keeping.specs.DropKept.{drop-kept, drop-order, drop-pins, drop-lends}

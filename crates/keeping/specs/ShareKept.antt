@@ -25,7 +25,7 @@ use Rattle.keeping.specs.Owing.{rowAt, entryAt, Backs, Placed, Owing, Ho
 use Rattle.model.specs.HolderLaws.{weight-free, weight-taken, weight-ranged}
 use Rattle.model.specs.Holders.{entryHold, rangeHold, oneIf, weight, rangeTaken}
 use Rattle.keeping.specs.OwingLaws.{taken-there, used-there, apart-alone}
-use Rattle.keeping.specs.ViewLaws.{held-some}
+use Rattle.keeping.specs.HomesLaws.{held-some}
 use Rattle.keeping.specs.BackingsKept.{more, backing-there, hold-kept}
 use Rattle.keeping.specs.SlotsKept.{row-counts}
 use Rattle.keeping.specs.EntriesKept.{Entry·new, entryOn, entry-kept, free-row, entry-counts}

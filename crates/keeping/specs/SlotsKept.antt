@@ -19,7 +19,7 @@ use Rattle.keeping.specs.Owing.{rowAt, entryAt, Placed, Owing, Holds, Ag
 use Rattle.model.specs.HolderLaws.{holding-put, holders-split, weight-ranged, weight-unranged, weight-unused}
 use Rattle.model.specs.Holders.{rangeHold, oneIf, weight, rangeTaken}
 use Rattle.keeping.specs.OwingLaws.{used-there, apart-turn}
-use Rattle.keeping.specs.ViewLaws.{agree-more}
+use Rattle.keeping.specs.HomesLaws.{agree-more}
 use Rattle.keeping.specs.AlikeLaws.{alike-is, fits-as, entry-as, placed-as, pool-as, Alike, sizes-as}
 use Rattle.keeping.specs.BackingsKept.{more}
 

@@ -23,7 +23,7 @@ use Rattle.laws.specs.ListsLaws.{part-at, part-length}
 use Rattle.keeping.specs.Owing.{Placed, Agree, Owing, nothing, Lent}
 use Rattle.keeping.specs.OwingLaws.{home-one, slot-pinned}
 use Rattle.keeping.specs.BacksLaws.{backing-of}
-use Rattle.keeping.specs.ViewLaws.{listed-home, holds-in}
+use Rattle.keeping.specs.HomesLaws.{listed-home, holds-in}
 
 module _ (m : Machine) (o : Owing nothing m) where
   slot-row : (p t : ℕ) → t < 64 → getD (regionsOf m p) t noRegion ≡ regionAt m p t

@@ -5,7 +5,6 @@ use Prim.Native.Nat.{ℕ}
 use native.Mathlib.Omega.{arith}
 use lib.ListN.{length, set}
 use Rattle.model.specs.Machine.{State}
-use Rattle.model.specs.declared.Place.{Place}
 use Rattle.model.specs.declared.Placed.{Placed}
 use Rattle.model.specs.declared.Placed.the-variants as placed
 use Rattle.model.specs.Answers.{After, Reply, ofPlaced}

@@ -7,7 +7,7 @@ use address::PhysFrame;
 use address::VirtAddr;
 use answers::Refusal;
 
-// How many there are (RULES N3 to N8): slots and mapped pages of each process, regions and mappings of all.
+// How many there are (RULES N3 to N8): slots and mapped pages of each process, regions of all.
 pub const PROCESSES: usize = 8;
 
 pub const SLOTS: usize = 64;
@@ -15,8 +15,6 @@ pub const SLOTS: usize = 64;
 pub const MAPPED_PAGES: usize = 128;
 
 pub const REGIONS: usize = 512;
-
-pub const MAPPINGS: usize = 1024;
 
 pub const ENTRIES: usize = 512;
 

@@ -1,30 +1,31 @@
 -- Laws of `Accounted`: a sound machine is, and a hold given up keeps it so.
 use mathlib.Core.Path.{_≡_, refl, ap, sym, subst, _∙_}
 use mathlib.Core.Logic.{_≢_}
-use mathlib.Core.Bool.{Bool, true, false, cond, false≢true}
+use mathlib.Core.Bool.{Bool, true, false, false≢true}
 use mathlib.Core.List.{List}
 use Prim.Native.Nat.{ℕ, _+_, _-_, _≤_, _<_}
 use native.Mathlib.Omega.{arith}
 use native.Mathlib.Decide.{ℕ-discrete}
-use lib.ListN.{length, getD, set, List·getD-eq-default}
+use lib.ListN.{length, getD, set}
 use lib.Seq.{getD-set-same, getD-set-other}
-use lib.Dec.{eqb, ltb, leb}
-use borrow.Author.Tests.{ltb-true, ltb-false, leb-true, leb-false, eqb-true, eqb-false, eq-eqb, ne-eqb, lt-leb, not-true, not-false}
-use Rattle.laws.specs.BoolLaws.{both-true}
+use lib.Dec.{eqb}
+use borrow.Author.Tests.{eqb-true, eq-eqb, ne-eqb, lt-leb, not-false}
 use Rattle.model.specs.declared.Backing.{Backing}
 use Rattle.model.specs.declared.Pool.{Pool}
 use Rattle.model.specs.declared.Region.{Region}
 use Rattle.laws.specs.Lists.{count}
-use Rattle.model.specs.Machine.{Machine, State, noBacking, noEntry, noRegion}
+use Rattle.model.specs.Machine.{Machine, State, noBacking, noRegion}
 use Rattle.model.specs.Lookup.{isUsed, isRanged}
 use Rattle.model.specs.Backing.{backingAt, withBackings, letGo}
-use Rattle.model.specs.Sound.{Sound, R2, holds, holdersOf}
+use Rattle.model.specs.Sound.{Sound, R2, holdersOf}
 use Rattle.backing.specs.Ready.{Ready}
-use Rattle.backing.specs.BackingLaws.{sound-ready, used-low}
+use Rattle.backing.specs.BackingLaws.{used-low}
 use Rattle.model.specs.HolderLaws.{holders-split}
-use Rattle.model.specs.Holders.{oneIf, entryTaken, entryHold, rangeTaken, rangeHold, entriesHold, rangesHold}
-use Rattle.remove.specs.HoldingLaws.{Holder, holding-some}
+use Rattle.model.specs.Holders.{oneIf, entriesHold, rangesHold}
 use Rattle.remove.specs.Accounted.{FreeUnranged, Accounted}
+use Rattle.keeping.specs.Owing.{Owing, nothing}
+use Rattle.keeping.specs.OwingOfSound.{sound-owing}
+use Rattle.keeping.specs.LetGoLaws.{lessHeld, let-go-is}
 
 -- ---- the tables that holders and pool are read from
 
@@ -63,79 +64,29 @@ accounted-same m n k a = record { ready = ready-same m n (k .backings) (k .pool)
         let count = ap (λ (b : Backing). b .holders) row in
         (λ z. had .0 (sym len ∙ z), omega arith)
 
--- ---- a sound machine is
+-- ---- a machine that keeps the rules is, whatever holders it owes; so a sound one is
 
-not-zero : {n : ℕ} → 1 ≤ n → n ≢ 0
-not-zero h e = omega arith
+pub owing-accounted : (d : ℕ → ℕ) (m : Machine) → Owing d m → Accounted m
+owing-accounted d m o = record {
+  ready = record { r2 = o .pool; rows = o .sizes .backings; few = o .sizes .frameCount };
+  held = held;
+  slots = slots;
+}
+  where
+    held : (f : ℕ) → 1 ≤ holdersOf m f → (backingAt m f .len ≢ 0) × (holdersOf m f ≤ backingAt m f .holders)
+    held f h = let counted = o .counted f in (λ z. let none = o .unheld f z in absurd (omega arith), omega arith)
 
-module _ (s : State) (sound : Sound s) where
-  abbrev m : Machine
-  m = s .machine
+    slots : FreeUnranged (m .regions)
+    slots i e = go (isUsed (getD (m .regions) i noRegion)) refl
+      where
+        go : (b : Bool) → isUsed (getD (m .regions) i noRegion) ≡ b → b ≡ true
+        go true q = refl
+        go false q = absurd (false≢true (ap (λ (r : Region). isRanged r) (sym (o .regions i .free (eqb-true _ 0 (not-false _ q)))) ∙ e))
 
-  entry-used : (f : ℕ) → Holder entryTaken entryHold f noEntry refl (m .entries) → backingAt m f .len ≢ 0
-  entry-used f k = subst (λ (x : ℕ). backingAt m x .len ≢ 0) (k .frame) (not-zero (rw one-frame (omega arith)))
-    where
-      one-frame : backingAt m (getD (m .entries) (k .row) noEntry .frame .0) .len ≡ 1
-      one-frame = sound .r6 .entries (k .row) (k .inside) .used (eqb-false _ 0 (not-true _ (k .holds))) .frame
-
-  range-used : (f : ℕ) → Holder rangeTaken rangeHold f noRegion refl (m .regions) → backingAt m f .len ≢ 0
-  range-used f k = subst (λ (x : ℕ). backingAt m x .len ≢ 0) (k .frame) (pages (both-true (isUsed r) (isRanged r) (k .holds)))
-    where
-      r : Region
-      r = getD (m .regions) (k .row) noRegion
-
-      pages : (isUsed r ≡ true) × (isRanged r ≡ true) → backingAt m (r .range .0) .len ≢ 0
-      pages e =
-          let limits = sound .r6 .regions (k .row) (k .inside) .used (eqb-false _ 0 (not-true _ (e .0))) in
-          let some = limits .some in
-          let long = limits .ranged (eqb-true _ 1 (e .1)) in
-          not-zero (rw long (omega arith))
-
-  sound-held : (f : ℕ) → 1 ≤ holdersOf m f → (backingAt m f .len ≢ 0) × (holdersOf m f ≤ backingAt m f .holders)
-  sound-held f h = go (leb 1 (entriesHold (m .entries) f)) refl
-    where
-      counted : backingAt m f .len ≢ 0 → (backingAt m f .len ≢ 0) × (holdersOf m f ≤ backingAt m f .holders)
-      counted used =
-          let low = used-low m (sound-ready sound) f used in
-          let small = sound .r6 .sized .frameCount in
-          let rows = sound .r6 .sized .backings in
-          let is = sound .r3 f (omega arith) used .0 in
-          (used, omega arith)
-
-      go : (b : Bool) → leb 1 (entriesHold (m .entries) f) ≡ b → (backingAt m f .len ≢ 0) × (holdersOf m f ≤ backingAt m f .holders)
-      go true e = counted (entry-used f (holding-some entryTaken entryHold f noEntry refl (m .entries) (leb-true 1 _ e)))
-      go false e =
-          let none = leb-false 1 (entriesHold (m .entries) f) e in
-          let split = holders-split m f in
-          counted (range-used f (holding-some rangeTaken rangeHold f noRegion refl (m .regions) (omega arith)))
-
-  sound-slots : FreeUnranged (m .regions)
-  sound-slots i e = go (ltb i (length (m .regions))) refl (isUsed (getD (m .regions) i noRegion)) refl
-    where
-      no-range : getD (m .regions) i noRegion ≡ noRegion → ⊥
-      no-range p = false≢true (ap (λ (r : Region). isRanged r) (sym p) ∙ e)
-
-      go : (a : Bool) → ltb i (length (m .regions)) ≡ a → (b : Bool) → isUsed (getD (m .regions) i noRegion) ≡ b → b ≡ true
-      go a p true q = refl
-      go true p false q = absurd (no-range (sound .r6 .regions i (ltb-true i _ p) .free (eqb-true _ 0 (not-false _ q))))
-      go false p false q = absurd (no-range (List·getD-eq-default (m .regions) noRegion {n = i} (ltb-false i _ p)))
-
-  pub sound-accounted : Accounted m
-  sound-accounted = record { ready = sound-ready sound; held = sound-held; slots = sound-slots }
+pub sound-accounted : (s : State) → Sound s → Accounted (s .machine)
+sound-accounted s sound = owing-accounted nothing (s .machine) (sound-owing s sound)
 
 -- ---- a holder less
-
--- the row of a backing with a holder less
-abbrev pub lessHeld : Backing → Backing
-lessHeld b = cond (leb (b .holders) 1) noBacking (record { len = b .len; holders = b .holders - 1 })
-
-pub let-go-is : (m : Machine) (f : ℕ) → letGo m f ≡ withBackings m (set (m .backings) f (lessHeld (backingAt m f)))
-unfolding letGo
-let-go-is m f = go (leb (backingAt m f .holders) 1)
-  where
-    go : (b : Bool) → cond b (withBackings m (set (m .backings) f noBacking)) (withBackings m (set (m .backings) f (record { len = backingAt m f .len; holders = backingAt m f .holders - 1 }))) ≡ withBackings m (set (m .backings) f (cond b noBacking (record { len = backingAt m f .len; holders = backingAt m f .holders - 1 })))
-    go true = refl
-    go false = refl
 
 -- one hold of the backing at f is given up, and with it one holder
 module _ (m : Machine) (a : Accounted m) (f : ℕ) where

@@ -26,7 +26,8 @@ use Rattle.model.specs.HolderLaws.{holders-split}
 use Rattle.model.specs.Holders.{oneIf, weight, entryTaken, entryHold, rangesHold}
 use Rattle.remove.specs.HoldingLaws.{holding-set}
 use Rattle.remove.specs.Accounted.{FreeUnranged, Accounted}
-use Rattle.remove.specs.AccountedLaws.{ready-same, let-go-is, given-used, given-held}
+use Rattle.remove.specs.AccountedLaws.{ready-same, given-used, given-held}
+use Rattle.keeping.specs.LetGoLaws.{let-go-is, let-go-entries}
 use Rattle.remove.specs.Dropped.{LetsGo, allGone, ownedBy, freed, entriesDropped, entryDropped, entryLeft, EntryGone, EntriesGone}
 
 pub lets-go : (m : Machine) (f : ℕ) (n : Machine) → n ≡ released m f → LetsGo m f n
@@ -35,11 +36,6 @@ lets-go m f n e ready used = e ∙ release-is m ready f used
 -- a backing in use has a row
 pub lets-go-past : (m : Machine) (f : ℕ) → 256 ≤ f → LetsGo m f m
 lets-go-past m f h ready used = let low = used-low m ready f used in let few = ready .few in absurd (omega arith)
-
--- the page entries do not matter
-pub let-go-entries : (m : Machine) (l : List Entry) (f : ℕ) → letGo (withEntries m l) f ≡ withEntries (letGo m f) l
-unfolding withBackings
-let-go-entries m l f = let-go-is (withEntries m l) f ∙ sym (ap (λ (x : Machine). withEntries x l) (let-go-is m f))
 
 pub let-go-kept : (m : Machine) (f : ℕ) → letGo m f .entries ≡ m .entries
 unfolding withBackings

@@ -25,7 +25,8 @@ use Rattle.remove.specs.HoldingLaws.{holding-set}
 use Rattle.remove.specs.Accounted.{FreeUnranged, Accounted}
 use Rattle.remove.specs.AccountedLaws.{ready-same, given-used, given-held}
 use Rattle.remove.specs.Dropped.{LetsGo, allGone, freed, entriesDropped, EntriesGone}
-use Rattle.remove.specs.DroppedLaws.{let-go-entries, let-go-kept, gone-books}
+use Rattle.remove.specs.DroppedLaws.{let-go-kept, gone-books}
+use Rattle.keeping.specs.LetGoLaws.{let-go-entries}
 use Rattle.remove.specs.SlotDropped.{rangeGone, RangeGone, slotDropped, SlotGone, Dropped}
 
 pub range-goes : (m : Machine) (r : Region) (n : Machine) → r .ranged ≡ 1 → LetsGo m (r .range .0) n → RangeGone m r n

@@ -14,7 +14,6 @@ use Rattle.model.specs.declared.Done.{Done}
 use Rattle.model.specs.declared.Done.the-variants as done
 use Rattle.model.specs.Machine.{State}
 use Rattle.model.specs.Layout.{wordCount}
-use Rattle.model.specs.declared.Place.{Place}
 use Rattle.model.specs.declared.Placed.{Placed}
 use Rattle.model.specs.declared.Placed.the-variants as placed
 use Rattle.model.specs.SoundTest.{soundb}

@@ -1,5 +1,4 @@
 // Lines of a fixed form: a list of forms, numbers put into one of them.
-ghost use mathlib.Core.Path.{_≡_};
 ghost use Prim.Native.Nat.{_+_, _≤_};
 ghost use lib.ListN.{length};
 use crate::words::next_word;
