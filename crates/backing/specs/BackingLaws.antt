@@ -6,7 +6,7 @@ use mathlib.Core.List.{List, [], _∷_}
 use Prim.Native.Nat.{ℕ, zero, suc, _+_, _-_, _%_, _^_, _≤_, _<_}
 use native.Mathlib.Omega.{arith}
 use native.Mathlib.Decide.{ℕ-discrete}
-use lib.ListN.{length, getD, set, length-set, length-take, List·getD-eq-default}
+use lib.ListN.{length, getD, set, length-set, length-take}
 use lib.Seq.{length-take-le, getD-take, getD-set-same, getD-set-other, take-set-lt}
 use lib.Dec.{ltb, leb}
 use borrow.Author.Tests.{ltb-true, ltb-false, leb-true, leb-false, not-true}
@@ -27,6 +27,7 @@ use Rattle.backing.specs.FreeRunLaws.{first-passes, first-none}
 use Rattle.lookup.specs.LookupsLaws.{backings-length}
 use Rattle.backing.specs.PoolsLaws.{Right, kept-pool, taken-pool, given-pool}
 use Rattle.backing.specs.Ready.{Ready}
+use Rattle.model.specs.RuleUseLaws.{backing-within}
 
 pub sound-ready : {s : State} → Sound s → Ready (s .machine)
 sound-ready sound = record { r2 = sound .r2; rows = sound .r6 .sized .backings; few = sound .r6 .sized .frameCount }
@@ -140,11 +141,7 @@ module _ (m : Machine) (ready : Ready m) where
 
   -- a backing lies in the machine's frames
   pub used-inside : (f : ℕ) → backingAt m f .len ≢ 0 → f + backingAt m f .len ≤ m .frameCount
-  used-inside f used = go (ltb f (length (m .backings))) refl
-    where
-      go : (b : Bool) → ltb f (length (m .backings)) ≡ b → f + backingAt m f .len ≤ m .frameCount
-      go true e = ready .r2 .within f (ltb-true f (length (m .backings)) e) used
-      go false e = absurd (used (ap (λ (b : Backing). b .len) (List·getD-eq-default (m .backings) noBacking {n = f} (ltb-false f (length (m .backings)) e))))
+  used-inside f used = backing-within m f used (ready .r2)
 
   pub used-low : (f : ℕ) → backingAt m f .len ≢ 0 → f < m .frameCount
   used-low f used = let inside = used-inside f used in let some = above-zero used in omega arith

@@ -1,6 +1,6 @@
 -- Laws of `Plans`: what creation plans: the first refusal, or the spot, the run and the slot that the searches find.
 use mathlib.Core.Path.{_≡_, refl, ap, sym, _∙_}
-use mathlib.Core.Bool.{Bool, true, false, _&&_, not, cond, false≢true, and-true, and-false}
+use mathlib.Core.Bool.{Bool, true, false, _&&_, not, cond, and-true, and-false}
 use mathlib.Core.List.{List, [], _∷_, _++_}
 use Prim.Native.Nat.{ℕ}
 use native.Mathlib.Omega.{arith}
@@ -14,7 +14,7 @@ use Rattle.model.specs.declared.Found.the-variants.{At, Nothing}
 use Rattle.model.specs.declared.Place.{Place}
 use Rattle.model.specs.declared.Region.{Region}
 use Rattle.model.specs.Machine.{Machine}
-use Rattle.model.specs.Lookup.{isFound, rowFound, isOpen, pagesFor, freeSlot}
+use Rattle.model.specs.Lookup.{isFound, isOpen, pagesFor, freeSlot}
 use Rattle.model.specs.Backing.{lowestRun}
 use Rattle.model.specs.Answers.{firstOf}
 use Rattle.model.specs.Create.{roundUp, spot, spotRefusal, runNeeded, createRefusals}
@@ -26,6 +26,7 @@ use Rattle.create.specs.declared.plan.Planned.the-variants.{Go}
 use Rattle.lookup.specs.FirstOfLaws.{first-here, first-later, first-none, first-passed, no-refusal}
 use Rattle.create.specs.RequestRefused.{requestRefusals}
 use Rattle.create.specs.Plans.{runFor, searchRefusals, frameFound, planFor, unlessRefused, foundPlan, searched, planned, PlanFits}
+use Rattle.model.specs.FoundRowLaws.{found-row}
 
 -- ---- a run
 
@@ -145,10 +146,6 @@ told-no (No s) plan q x e f = let g : Planned.No q ≡ Planned.No s = sym f ∙ 
 told-go : (d : Done) (plan way : Plan) (x : Planned) → x ≡ unlessRefused d plan → x ≡ Go way → (Yes ≡ d) × (way ≡ plan)
 told-go Yes plan way x e f = (refl, let g : Go way ≡ Go plan = sym f ∙ e in cc)
 told-go (No s) plan way x e f = let z : _≡_ {A = ℕ} 0 1 = let g : Go way ≡ Planned.No s = sym f ∙ e in cc in absurd (omega arith)
-
-found-row : (x : Found) → not (isFound x) ≡ false → x ≡ At (rowFound x)
-found-row (At i) q = refl
-found-row Nothing q = absurd (false≢true (sym q))
 
 run-found : (b : Bool) (x run : Found) (f : ℕ) → run ≡ cond b x Nothing → run ≡ At f → x ≡ At f
 run-found true x run f e g = sym e ∙ g

@@ -43,7 +43,8 @@ use Rattle.keeping.specs.BacksLaws.{source-of, backing-of, entry-of}
 use Rattle.keeping.specs.OwingOfSound.{sound-owing}
 use Rattle.keeping.specs.OwingLaws.{open-low}
 use Rattle.keeping.specs.PagesKept.{base-used}
-use Rattle.keeping.specs.BackingsKept.{FreeRun, backing-within}
+use Rattle.keeping.specs.BackingsKept.{FreeRun}
+use Rattle.model.specs.RuleUseLaws.{backing-within}
 use Rattle.keeping.specs.FreeLaws.{next-run}
 use Rattle.keeping.specs.EntriesKept.{entryOn, free-row}
 use Rattle.keeping.specs.ArgumentLaws.{Named, named-at}
@@ -304,7 +305,7 @@ module _ (s : State) (sound : Sound s) (p t pg : ℕ) (home : Home (s .machine) 
       let k = source-of machine p t pg f e in
       let l = in-base machine o (rowOf p t) pg (k .base) f (k .backs) in
       let l1 = l .1 in
-      let w = backing-within nothing machine o (k .base) (base-used nothing machine o (rowOf p t) pg (k .base) f (k .backs)) in
+      let w = backing-within machine (k .base) (base-used nothing machine o (rowOf p t) pg (k .base) f (k .backs)) (o .pool) in
       omega arith
 
   went : (way : Way) → Right (regionAt machine p t) (translate (mappedOf machine p) pg) (backing machine p t pg) way → Bare (backing machine p t pg) way → Passed (wayRefusals machine p t pg way) → Sound (goWay s p t pg way) → Same s (goWay s p t pg way) q c

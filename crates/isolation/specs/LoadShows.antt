@@ -35,7 +35,7 @@ use Rattle.keeping.specs.Owing.{Owing, Backs, nothing}
 use Rattle.keeping.specs.BacksLaws.{backing-of}
 use Rattle.keeping.specs.OwingOfSound.{sound-owing}
 use Rattle.keeping.specs.PagesKept.{base-used}
-use Rattle.keeping.specs.BackingsKept.{backing-within}
+use Rattle.model.specs.RuleUseLaws.{backing-within}
 use Rattle.keeping.specs.LookingKept.{frames-kept}
 use Rattle.isolation.specs.Statements.{StoresStayHome}
 use Rattle.isolation.specs.ViewLaws.{at-home, view-at, view-none, seenBy}
@@ -76,7 +76,7 @@ through s sound p a x e =
     let backs : Backs m (rowOf p (k .slot)) (a / 4096) (k .base) (x .frame .0) = subst (λ (i : ℕ). Backs m (rowOf p (k .slot)) i (k .base) (x .frame .0)) (inside .1) (k .backed) in
     let l = in-base m o (rowOf p (k .slot)) (a / 4096) (k .base) (x .frame .0) backs in
     let l1 = l .1 in
-    let w = backing-within nothing m o (k .base) (base-used nothing m o (rowOf p (k .slot)) (a / 4096) (k .base) (x .frame .0) backs) in
+    let w = backing-within m (k .base) (base-used nothing m o (rowOf p (k .slot)) (a / 4096) (k .base) (x .frame .0) backs) (o .pool) in
     let z = sound .r6 .sized .frames in
     record {
       slot = k .slot;

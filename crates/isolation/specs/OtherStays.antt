@@ -33,7 +33,8 @@ use Rattle.keeping.specs.Owing.{Owing, nothing}
 use Rattle.keeping.specs.OwingOfSound.{sound-owing}
 use Rattle.keeping.specs.OwingLaws.{open-low, listed-open}
 use Rattle.keeping.specs.OpenKept.{open-kept}
-use Rattle.keeping.specs.ArgumentLaws.{named-at, found-at, is-open}
+use Rattle.keeping.specs.ArgumentLaws.{named-at, is-open}
+use Rattle.model.specs.FoundRowLaws.{found-row}
 use Rattle.keeping.specs.PinKept.{pin-kept}
 use Rattle.keeping.specs.ProtectKept.{protect-kept}
 use Rattle.keeping.specs.RemovalKept.{remove-core, still-listed, any-found, remove-kept, clear-kept, unpin-kept}
@@ -156,7 +157,7 @@ open-stays a size s sound q c private free =
   where
     other : not (isFound (closedRow (s .machine))) ≡ false → (t : ℕ) → Home (s .machine) q t (c / 4096) → q ≢ rowFound (closedRow (s .machine))
     other f t home z =
-        let found = first-found (λ q. eqb (q .opened) 0) (s .machine .processes) (rowFound (closedRow (s .machine))) noProcess (found-at (closedRow (s .machine)) f) in
+        let found = first-found (λ q. eqb (q .opened) 0) (s .machine .processes) (rowFound (closedRow (s .machine))) noProcess (found-row (closedRow (s .machine)) f) in
         let shut = eqb-true (processAt (s .machine) (rowFound (closedRow (s .machine))) .opened) 0 (found .1) in
         let opened = subst (λ (r : ℕ). processAt (s .machine) r .opened ≡ 1) z (listed-open nothing (s .machine) (sound-owing s sound) q t (home .listed)) in
         omega arith
@@ -179,7 +180,7 @@ remove-stays p a s sound q c private free = machine-stays s sound q c private _ 
       where
         other : p ≡ q → slotAt s p a ≡ t → ⊥
         other x y =
-            let here : regionFor (s .machine) q a ≡ At t = subst (λ (r : ℕ). regionFor (s .machine) r a ≡ At t) x (found-at (regionFor (s .machine) p a) found ∙ ap (λ (r : ℕ). At r) y) in
+            let here : regionFor (s .machine) q a ≡ At t = subst (λ (r : ℕ). regionFor (s .machine) r a ≡ At t) x (found-row (regionFor (s .machine) p a) found ∙ ap (λ (r : ℕ). At r) y) in
             let there = at-home (s .machine) o q (c / 4096) t home in
             true≢false (sym (ap (λ (b : Bool). b && sameSlot (regionFor (s .machine) q a) (homeSlot s q c)) (eq-eqb p q x) ∙ ap (λ f. sameSlot f (homeSlot s q c)) here ∙ ap (sameSlot (At t)) there ∙ eq-eqb t t refl) ∙ free)
 

@@ -26,7 +26,7 @@ use Rattle.keeping.specs.OwingLaws.{open-low, listed-row, slot-pinned}
 use Rattle.keeping.specs.AlikeLaws.{limits-pins}
 use Rattle.keeping.specs.SlotsKept.{owes, slot-put}
 use Rattle.keeping.specs.OrderKept.{order-reads, order-other, opened-same, order-kept}
-use Rattle.keeping.specs.ArgumentLaws.{found-at}
+use Rattle.model.specs.FoundRowLaws.{found-row}
 use Rattle.keeping.specs.PinKept.{pins-kept}
 
 -- the lowest free slot is one of the 64, and free
@@ -35,7 +35,7 @@ pub free-slot : (d : ℕ → ℕ) (m : Machine) → Owing d m → (p : ℕ) → 
 unfolding freeSlot
 free-slot d m o p h e =
     let t : ℕ = rowFound (freeSlot m p) in
-    let k = first-found (λ r. eqb (r .kind) 0) (regionsOf m p) t noRegion (found-at (freeSlot m p) e) in
+    let k = first-found (λ r. eqb (r .kind) 0) (regionsOf m p) t noRegion (found-row (freeSlot m p) e) in
     let size = o .sizes .regions in
     let few = part-length (m .regions) 64 p (omega arith) in
     let inside = k .0 in

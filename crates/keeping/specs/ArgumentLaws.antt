@@ -1,26 +1,20 @@
 -- What the tests of a call tell of its arguments: an open process, the region that is named by an address.
-use mathlib.Core.Path.{_≡_, refl}
-use mathlib.Core.Bool.{true, false, not, true≢false}
+use mathlib.Core.Path.{_≡_}
+use mathlib.Core.Bool.{true, false, not}
 use Prim.Native.Nat.{ℕ}
 use borrow.Author.Tests.{eqb-true, not-false}
-use Rattle.model.specs.declared.Found.{Found}
-use Rattle.model.specs.declared.Found.the-variants.{At, Nothing}
 use Rattle.model.specs.Machine.{Machine, processAt, regionAt, orderOf}
 use Rattle.model.specs.Lookup.{isOpen, isFound, rowFound, regionFor, contains}
 use Rattle.model.specs.LookupLaws.{first-found}
 use Rattle.laws.specs.In.{In}
 use Rattle.laws.specs.InListsLaws.{among-in}
+use Rattle.model.specs.FoundRowLaws.{found-row}
 
 -- the slot of an attached region at an address
 pub record Named (m : Machine) (p slot a : ℕ) : Type 0 where
   pub opened : processAt m p .opened ≡ 1
   pub listed : In slot (orderOf m p)
   pub inside : contains (regionAt m p slot) a ≡ true
-
--- a search that did not fail found a row
-pub found-at : (x : Found) → not (isFound x) ≡ false → x ≡ At (rowFound x)
-found-at (At i) e = refl
-found-at Nothing e = absurd (true≢false e)
 
 -- what the test of a process tells
 pub is-open : (m : Machine) (p : ℕ) → not (isOpen m p) ≡ false → processAt m p .opened ≡ 1
@@ -30,5 +24,5 @@ is-open m p e = eqb-true (processAt m p .opened) 1 (not-false _ e)
 pub named-at : (m : Machine) (p a : ℕ) → not (isOpen m p) ≡ false → not (isFound (regionFor m p a)) ≡ false → Named m p (rowFound (regionFor m p a)) a
 unfolding regionFor
 named-at m p a e f =
-    let k = first-found (λ s. contains (regionAt m p s) a) (orderOf m p) (rowFound (regionFor m p a)) (found-at (regionFor m p a) f) in
+    let k = first-found (λ s. contains (regionAt m p s) a) (orderOf m p) (rowFound (regionFor m p a)) (found-row (regionFor m p a) f) in
     record { opened = is-open m p e; listed = among-in _ (orderOf m p) (k .1); inside = k .0 }

@@ -12,13 +12,14 @@ use Rattle.model.specs.declared.Mapping.{Mapping}
 use Rattle.model.specs.Machine.{Machine, regionAt, rowOf, orderOf, mappedOf, noBacking}
 use Rattle.model.specs.Backing.{backingAt, poolOf, withBackings, claim, hold, letGo}
 use Rattle.model.specs.Sound.{Flagged, Hold, R2, holdersOf, holds}
-use Rattle.laws.specs.SetLaws.{row-there, each-row}
+use Rattle.laws.specs.SetLaws.{each-row}
 use Rattle.laws.specs.In.{In}
 use Rattle.keeping.specs.Owing.{rowAt, entryAt, Backs, Placed, Owing, Holds}
 use Rattle.model.specs.Holders.{entryHold, rangeHold, oneIf}
 use Rattle.keeping.specs.HomesLaws.{held-some, hold-used}
 use Rattle.keeping.specs.AlikeLaws.{alike-same, fits-as, entry-as, placed-as, sizes-as}
 use Rattle.keeping.specs.PagesKept.{base-used}
+use Rattle.model.specs.RuleUseLaws.{backing-there, backing-within}
 
 -- one holder more is owed of the backing at f
 abbrev pub more : ℕ → (ℕ → ℕ) → ℕ → ℕ
@@ -52,15 +53,9 @@ module _ (d : ℕ → ℕ) (m : Machine) (o : Owing d m) where
   pub held-used : (f : ℕ) → Held m f → backingAt m f .len ≢ 0
   held-used f k z = hold-used m (o .regions) (o .entries) (k .by) (k .holds) (ap (λ (x : ℕ). backingAt m x .len) (k .frame) ∙ z)
 
-  -- a backing in use: its row, its frames, and the next one past its end
-  pub backing-there : (f : ℕ) → backingAt m f .len ≢ 0 → f < length (m .backings)
-  backing-there f u = row-there (m .backings) noBacking f (λ e. u (ap (λ (b : Backing). b .len) e))
-
-  pub backing-within : (f : ℕ) → backingAt m f .len ≢ 0 → f + backingAt m f .len ≤ m .frameCount
-  backing-within f u = o .pool .within f (backing-there f u) u
-
+  -- the next backing starts past the end of one in use
   pub backing-apart : (f g : ℕ) → f < g → backingAt m f .len ≢ 0 → backingAt m g .len ≢ 0 → f + backingAt m f .len ≤ g
-  backing-apart f g l u v = o .pool .apart f (backing-there f u) u g (backing-there g v) l v
+  backing-apart f g l u v = o .pool .apart f (backing-there m f u) u g (backing-there m g v) l v
 
 -- a row that the other backings leave room for
 pub record Fits (m : Machine) (f n : ℕ) : Type 0 where
@@ -105,7 +100,7 @@ module _ (d e : ℕ → ℕ) (m : Machine) (o : Owing d m) (f : ℕ) (b : Backin
         (λ u. each (λ g y. f < g → y .len ≢ 0 → f + b .len ≤ g) (λ l v. absurd (omega arith)) (λ g z l v. put .fits u .above g l v))
         (λ i z u. each (λ g y. i < g → y .len ≢ 0 → i + backingAt m i .len ≤ g) (λ l v. put .fits v .below i l u) (λ g y l v. backing-apart d m o i g l u v))
         i u g l v;
-    within = λ i h. each (λ i x. x .len ≢ 0 → i + x .len ≤ m .frameCount) (λ u. put .fits u .inside) (λ i z. backing-within d m o i) i;
+    within = λ i h. each (λ i x. x .len ≢ 0 → i + x .len ≤ m .frameCount) (λ u. put .fits u .inside) (λ i z u. backing-within m i u (o .pool)) i;
     free = refl;
     next = refl;
   }
@@ -192,9 +187,9 @@ pub hold-kept :
     → Owing (more f d) (hold m f)
 unfolding hold
 hold-kept d m o f used flags = put-kept d (more f d) m o f (record { len = backingAt m f .len; holders = backingAt m f .holders + 1 }) (record {
-  low = let a = backing-within d m o f used in omega (arith, used);
+  low = let a = backing-within m f used (o .pool) in omega (arith, used);
   fits = λ u. record {
-    inside = backing-within d m o f used;
+    inside = backing-within m f used (o .pool);
     below = λ j l v. backing-apart d m o j f l v used;
     above = λ j l v. backing-apart d m o f j l used v;
   };
@@ -221,7 +216,7 @@ module _ (d : ℕ → ℕ) (m : Machine) (f : ℕ) (o : Owing (more f d) m) wher
   let-go-kept = go (leb (backingAt m f .holders) 1) refl
     where
       low : f < m .frameCount
-      low = let a = backing-within (more f d) m o f owed-used in let u = owed-used in omega (arith, u)
+      low = let a = backing-within m f owed-used (o .pool) in let u = owed-used in omega (arith, u)
 
       go : (t : Bool) → leb (backingAt m f .holders) 1 ≡ t
           → Owing d (cond t (withBackings m (set (m .backings) f noBacking))
@@ -247,7 +242,7 @@ module _ (d : ℕ → ℕ) (m : Machine) (f : ℕ) (o : Owing (more f d) m) wher
           put-kept (more f d) d m o f (record { len = backingAt m f .len; holders = backingAt m f .holders - 1 }) (record {
             low = low;
             fits = λ u. record {
-              inside = backing-within (more f d) m o f owed-used;
+              inside = backing-within m f owed-used (o .pool);
               below = λ j l v. backing-apart (more f d) m o j f l v owed-used;
               above = λ j l v. backing-apart (more f d) m o f j l owed-used v;
             };

@@ -27,7 +27,8 @@ use Rattle.laws.specs.InListsLaws.{in-keep, in-up}
 use Rattle.keeping.specs.Owing.{rowAt, entryAt, Owing, Lent, nothing}
 use Rattle.keeping.specs.OwingLaws.{open-low, listed-open, unowned}
 use Rattle.keeping.specs.BacksLaws.{no-entry}
-use Rattle.keeping.specs.BackingsKept.{more, FreeRun, held-used, claim-kept, backing-within}
+use Rattle.keeping.specs.BackingsKept.{more, FreeRun, held-used, claim-kept}
+use Rattle.model.specs.RuleUseLaws.{backing-within}
 use Rattle.keeping.specs.SlotsKept.{owes-nothing}
 use Rattle.keeping.specs.EntriesKept.{Entry·new, entryOn, entry-kept, free-row}
 use Rattle.keeping.specs.FreeLaws.{next-run, claim-fewer}
@@ -239,7 +240,7 @@ module _ (s : State) (o : Owing nothing (s .machine)) (lent : Lent s) (p t q : �
   single-page h i =
       let k = single-fits nothing m o src h i in
       let one = k .1 .1 in
-      let w = backing-within nothing m o (h .frame) (λ z. omega arith) in
+      let w = backing-within m (h .frame) (λ z. omega arith) (o .pool) in
       record { inside = k .1 .0; frame = omega arith }
 
   abbrev frames : List Held
@@ -264,7 +265,7 @@ module _ (s : State) (o : Owing nothing (s .machine)) (lent : Lent s) (p t q : �
           let y = in-map (pageFrom (r .start .0 / 4096) (r .range .0)) h (upFrom 0 (backingAt m (r .range .0) .len)) (k .0) in
           let small = in-up (y .0) 0 (backingAt m (r .range .0) .len) (y .1 .0) .1 in
           let long = limits .ranged (eqb-true (r .ranged) 1 e) in
-          let w = backing-within nothing m o (r .range .0) (λ z. omega arith) in
+          let w = backing-within m (r .range .0) (λ z. omega arith) (o .pool) in
           let page = ap (λ (z : Held). z .page) (y .1 .1) in
           let frame = ap (λ (z : Held). z .frame) (y .1 .1) in
           let al = eqb-true (r .start .0 % 4096) 0 (limits .alignedStart) in (

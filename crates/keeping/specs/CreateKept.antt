@@ -32,7 +32,8 @@ use Rattle.keeping.specs.SlotsKept.{owes-range, owes-nothing}
 use Rattle.keeping.specs.FreeLaws.{lowest-run}
 use Rattle.keeping.specs.FrameLengthLaws.{zero-length, lent-frames}
 use Rattle.keeping.specs.GuardedKept.{Passed, guarded-kept}
-use Rattle.keeping.specs.ArgumentLaws.{found-at, is-open}
+use Rattle.keeping.specs.ArgumentLaws.{is-open}
+use Rattle.model.specs.FoundRowLaws.{found-row}
 use Rattle.keeping.specs.CoreKept.{lent-as}
 use Rattle.keeping.specs.AddedKept.{Added, added-kept}
 use Rattle.keeping.specs.SpotLaws.{Room, spot-room, clear-apart}
@@ -77,8 +78,8 @@ granted m p place eager r k =
       long = ltb-false (r .size) (r .length) (a .1);
       flags = λ u. not-false _ (both (eqb (r .kind) 3) (not (goodFlags (r .flags .0))) (ne-eqb (r .kind) 3 u) (k .1 .1 .1 .0));
       file = λ u. leb-false (m .fileCount) (r .file) (other (eqb (r .kind) 2) (leb (m .fileCount) (r .file)) (eq-eqb (r .kind) 2 u) (k .1 .1 .1 .1 .0));
-      spot-found = found-at _ (k .1 .1 .1 .1 .1 .0);
-      run = λ u. found-at _ (other (runNeeded eager r) _ u (k .1 .1 .1 .1 .1 .1 .0));
+      spot-found = found-row _ (k .1 .1 .1 .1 .1 .0);
+      run = λ u. found-row _ (other (runNeeded eager r) _ u (k .1 .1 .1 .1 .1 .1 .0));
       slot = k .1 .1 .1 .1 .1 .1 .1 .0;
     }
   where

@@ -25,7 +25,7 @@ use Rattle.keeping.specs.OwingLaws.{taken-there}
 use Rattle.keeping.specs.HomesLaws.{agree-more}
 use Rattle.keeping.specs.AlikeLaws.{alike-same, fits-as, entry-as, pool-as, sizes-as, by-entry-as}
 use Rattle.keeping.specs.BackingsKept.{more}
-use Rattle.keeping.specs.ArgumentLaws.{found-at}
+use Rattle.model.specs.FoundRowLaws.{found-row}
 
 -- no process maps a page of the region at a row
 abbrev pub Unmapped : Machine → ℕ → ℕ → Type 0
@@ -175,7 +175,7 @@ pub free-row : (m : Machine) → not (isFound (freeEntry m)) ≡ false
     → (rowFound (freeEntry m) < length (m .entries)) × (entryAt m (rowFound (freeEntry m)) .owner ≡ 0)
 unfolding freeEntry
 free-row m e =
-    let k = first-found (λ x. eqb (x .owner) 0) (m .entries) (rowFound (freeEntry m)) noEntry (found-at (freeEntry m) e) in
+    let k = first-found (λ x. eqb (x .owner) 0) (m .entries) (rowFound (freeEntry m)) noEntry (found-row (freeEntry m) e) in
     (k .0, eqb-true _ 0 (k .1))
 
 -- ---- an entry set free

@@ -43,7 +43,7 @@ use Rattle.keeping.specs.AlikeLaws.{placed-with, alike-same}
 use Rattle.keeping.specs.MappedKept.{mapped-kept}
 use Rattle.keeping.specs.MapOrderLaws.{in-mapped, rising-map, remapped}
 use Rattle.keeping.specs.PagesKept.{few-pages, base-used, remap-kept}
-use Rattle.keeping.specs.BackingsKept.{backing-within}
+use Rattle.model.specs.RuleUseLaws.{backing-within}
 use Rattle.keeping.specs.FreeLaws.{next-run}
 use Rattle.keeping.specs.FrameLengthLaws.{bytes-length, put-length, fill-length, lent-frames}
 use Rattle.keeping.specs.GuardedKept.{Passed, passed, guarded-kept}
@@ -125,12 +125,12 @@ module _ (d : ℕ → ℕ) (m : Machine) (o : Owing d m) (p t pg : ℕ) (listed 
       go : (base : ℕ) → Backs m (rowOf p t) pg base f → f < m .frameCount
       go base (inl b) =
           let used = base-used d m o (rowOf p t) pg base f (inl b) in
-          let w = backing-within d m o base used in
+          let w = backing-within m base used (o .pool) in
           let q = b .frame in
           omega (arith, used)
       go base (inr b) =
           let used = base-used d m o (rowOf p t) pg base f (inr b) in
-          let w = backing-within d m o base used in
+          let w = backing-within m base used (o .pool) in
           let q = b .frame in
           let h = b .within in
           omega arith

@@ -2,8 +2,6 @@
 use mathlib.Core.Path.{_≡_, refl}
 use mathlib.Core.Bool.{Bool, true, false, not, cond}
 use mathlib.Core.List.{List, [], _∷_}
-use Prim.Native.Nat.{ℕ}
-use native.Mathlib.Omega.{arith}
 use Rattle.answers.specs.declared.Refusal.{Refusal}
 use Rattle.answers.specs.declared.Refusal.the-variants.{BadTable}
 use Rattle.model.specs.declared.Done.{Done}
@@ -13,6 +11,7 @@ use Rattle.model.specs.Answers.{After, firstOf}
 use Rattle.model.specs.Calls.{decided, guarded}
 use Rattle.model.specs.Sound.{Sound}
 use Rattle.model.specs.SoundTest.{soundb}
+use Rattle.model.specs.VisitLaws.{never-no}
 
 -- every test of a list is false
 abbrev pub Passed : List (Bool × Refusal) → Type 0
@@ -25,11 +24,8 @@ unfolding firstOf
 passed [] e = tt
 passed (t ∷ l) e = go (t .0) refl e (passed l)
   where
-    never : {r : Refusal} → No r ≡ Yes → ⊥
-    never {r} q = let z : _≡_ {A = ℕ} 0 1 = cc in omega arith
-
     go : (b : Bool) → t .0 ≡ b → cond b (No (t .1)) (firstOf l) ≡ Yes → (firstOf l ≡ Yes → Passed l) → (t .0 ≡ false) × Passed l
-    go true p q more = absurd (never q)
+    go true p q more = absurd (never-no q)
     go false p q more = (p, more q)
 
 -- the core may take it that no test refuses

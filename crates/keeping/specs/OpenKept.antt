@@ -20,7 +20,7 @@ use Rattle.model.specs.FoundRowLaws.{first-found}
 use Rattle.keeping.specs.Owing.{Owing, nothing}
 use Rattle.keeping.specs.ProcessesKept.{process-kept}
 use Rattle.keeping.specs.GuardedKept.{guarded-kept}
-use Rattle.keeping.specs.ArgumentLaws.{found-at}
+use Rattle.model.specs.FoundRowLaws.{found-row}
 use Rattle.keeping.specs.CoreKept.{machine-kept}
 
 pub open-kept : (s : State) → Sound s → (a size : ℕ) → Sound (step (Call.openProcess a size) s)
@@ -33,7 +33,7 @@ open-kept s sound a size =
         → not (isFound (closedRow (s .machine))) ≡ false
         → Owing nothing (withProcesses (s .machine) (set (s .machine .processes) (rowFound (closedRow (s .machine))) (calls.openedRow a size)))
     core o u b f =
-        let found = first-found (λ q. eqb (q .opened) 0) (s .machine .processes) (rowFound (closedRow (s .machine))) noProcess (found-at (closedRow (s .machine)) f) in
+        let found = first-found (λ q. eqb (q .opened) 0) (s .machine .processes) (rowFound (closedRow (s .machine))) noProcess (found-row (closedRow (s .machine)) f) in
         let count = o .sizes .processes in
         let low = found .0 in
         let none-open = eqb-true (processAt (s .machine) (rowFound (closedRow (s .machine))) .opened) 0 (found .1) in

@@ -6,19 +6,17 @@ use Prim.Native.Nat.{ℕ, _+_, _-_, _/_, _%_, _≤_, _<_}
 use native.Mathlib.Omega.{arith}
 use native.Mathlib.Decide.{ℕ-discrete}
 use lib.ListN.{length, take}
-use lib.Dec.{ltb, leb}
-use borrow.Author.Tests.{ltb-true, leb-true}
 use Rattle.model.specs.declared.Process.{Process}
 use Rattle.model.specs.declared.Region.{Region}
 use Rattle.model.specs.declared.Entry.{Entry}
 use Rattle.laws.specs.Lists.{part}
 use Rattle.model.specs.Machine.{Machine, processAt, noProcess, orderOf, rowOf, regionAt, noRegion, noEntry}
-use Rattle.model.specs.Lookup.{contains, segmentEnd}
+use Rattle.model.specs.Lookup.{contains}
 use Rattle.model.specs.Sound.{Apart, Used}
-use Rattle.laws.specs.BoolLaws.{both-true}
 use Rattle.laws.specs.SetLaws.{row-there}
 use Rattle.laws.specs.In.{In}
 use Rattle.keeping.specs.Owing.{Owing, rowAt, entryAt}
+use Rattle.model.specs.RuleUseLaws.{apart-alone}
 
 -- an open process has a row
 pub open-low : {d : ℕ → ℕ} (m : Machine) → Owing d m → (p : ℕ) → processAt m p .opened ≡ 1 → p < 8
@@ -46,21 +44,6 @@ listed-row m p t h k =
 pub apart-turn : (r x : Region) → Apart r x → Apart x r
 apart-turn r x (inl h) = inr h
 apart-turn r x (inr h) = inl h
-
--- regions apart have no common address
-pub apart-alone : (r x : Region) (a : ℕ) → Apart r x → contains r a ≡ true → contains x a ≡ true → ⊥
-apart-alone r x a h p q = go h
-  where
-    low : (r : Region) → contains r a ≡ true → (r .start .0 ≤ a) × (a < segmentEnd r)
-    low r e =
-        let b = both-true (leb (r .start .0) a) (ltb a (r .start .0 + r .size)) e in
-        let l = leb-true (r .start .0) a (b .0) in
-        let k = ltb-true a (r .start .0 + r .size) (b .1) in
-        (l, omega arith)
-
-    go : Apart r x → ⊥
-    go (inl e) = let u = low r p in let v = low x q in let u1 = u .1 in let v0 = v .0 in omega arith
-    go (inr e) = let u = low r p in let v = low x q in let u0 = u .0 in let v1 = v .1 in omega arith
 
 -- an address lies in one attached region at most
 pub home-one : {d : ℕ → ℕ} (m : Machine) → Owing d m → (p : ℕ) → p < 8 → (a s t : ℕ) → In s (orderOf m p) → In t (orderOf m p)

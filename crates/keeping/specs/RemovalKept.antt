@@ -34,7 +34,8 @@ use Rattle.keeping.specs.AlikeLaws.{Alike, alike-is, contains-as}
 use Rattle.keeping.specs.PagesKept.{pages-kept, pages-read}
 use Rattle.keeping.specs.OrderKept.{order-reads, order-kept}
 use Rattle.keeping.specs.GuardedKept.{guarded-kept}
-use Rattle.keeping.specs.ArgumentLaws.{named-at, found-at, is-open}
+use Rattle.keeping.specs.ArgumentLaws.{named-at, is-open}
+use Rattle.model.specs.FoundRowLaws.{found-row}
 use Rattle.keeping.specs.CoreKept.{Lends, lends-then, machine-kept}
 use Rattle.keeping.specs.PinKept.{pins-kept}
 use Rattle.keeping.specs.DropKept.{drop-kept, drop-order, drop-pins, drop-lends}
@@ -272,7 +273,7 @@ pub any-found : (d : ℕ → ℕ) (m : Machine) → Owing d m → (p a : ℕ) �
 unfolding anyRegionFor
 any-found d m o p a h e =
     let t : ℕ = rowFound (anyRegionFor m p a) in
-    let k = first-found (λ r. isUsed r && contains r a) (regionsOf m p) t noRegion (found-at (anyRegionFor m p a) e) in
+    let k = first-found (λ r. isUsed r && contains r a) (regionsOf m p) t noRegion (found-row (anyRegionFor m p a) e) in
     let size = o .sizes .regions in
     let few = part-length (m .regions) 64 p (omega arith) in
     let in-row = k .0 in

@@ -24,9 +24,11 @@ use Rattle.laws.specs.In.{In}
 use Rattle.keeping.specs.Owing.{rowAt, entryAt, Backs, Placed, Owing, Holds}
 use Rattle.model.specs.HolderLaws.{weight-free, weight-taken, weight-ranged}
 use Rattle.model.specs.Holders.{entryHold, rangeHold, oneIf, weight, rangeTaken}
-use Rattle.keeping.specs.OwingLaws.{taken-there, used-there, apart-alone}
+use Rattle.keeping.specs.OwingLaws.{taken-there, used-there}
+use Rattle.model.specs.RuleUseLaws.{apart-alone}
 use Rattle.keeping.specs.HomesLaws.{held-some}
-use Rattle.keeping.specs.BackingsKept.{more, backing-there, hold-kept}
+use Rattle.keeping.specs.BackingsKept.{more, hold-kept}
+use Rattle.model.specs.RuleUseLaws.{backing-there}
 use Rattle.keeping.specs.SlotsKept.{row-counts}
 use Rattle.keeping.specs.EntriesKept.{Entry·new, entryOn, entry-kept, free-row, entry-counts}
 use Rattle.keeping.specs.ClonePagesLaws.{OncePages, EntryOf, entries-fewer, entry-left, fresh-put}
@@ -197,7 +199,7 @@ module _ (d : ℕ → ℕ) (src row : ℕ) (h : Held) (l : List Held) (n : Machi
     unshared = k .unshared h (inl refl);
     contained = k .contained h (inl refl);
     none = k .fresh h (inl refl);
-    frame = ap (λ (b : Backing). b .len) (getD-set-same (n .backings) (h .frame) _ noBacking (backing-there d n (k .owing) (h .frame) used-frame)) ∙ one-frame;
+    frame = ap (λ (b : Backing). b .len) (getD-set-same (n .backings) (h .frame) _ noBacking (backing-there n (h .frame) used-frame)) ∙ one-frame;
     agree = λ g q e. let t = k .owing .onePage g (entryHold (entryAt n (from .at))) q (inl (record { row = from .at; taken = taken; is = refl }))
         (e ∙ sym (from .frame)) in (t .0 ∙ from .page, t .1);
     unmapped = λ p low x j q e. absurd (k .bare p low x j (q .slot) (k .owing .listed p (q .slot) low (q .listed) .0) (q .inside) e);

@@ -7,7 +7,7 @@ use native.Mathlib.Nat.{not-suc-le-zero}
 use native.Mathlib.Omega.{arith}
 use lib.ListN.{length, getD}
 use Rattle.model.specs.declared.Found.the-variants.{At, Nothing}
-use Rattle.model.specs.Lookup.{firstRow, isFound}
+use Rattle.model.specs.Lookup.{firstRow, isFound, rowFound}
 use Rattle.laws.specs.Lists.{count}
 use Rattle.model.specs.declared.Found.{Found}
 use Rattle.model.specs.LookupLaws.{never-found, same-slot}
@@ -76,3 +76,8 @@ first-nowhere f d l none = go (firstRow f l 0) refl
     go : (x : Found) → firstRow f l 0 ≡ x → x ≡ Nothing
     go Nothing e = refl
     go (At i) e = absurd (true≢false (sym (first-found f l i d e .1) ∙ none i))
+
+-- a search that does not miss has found its row
+pub found-row : (x : Found) → not (isFound x) ≡ false → x ≡ At (rowFound x)
+found-row (At i) e = refl
+found-row Nothing e = absurd (true≢false e)

@@ -33,6 +33,7 @@ pub mod PointRows
 pub mod RangeRows
 pub mod Points
 -- laws
+pub mod RuleUseLaws
 pub mod Holders
 pub mod HolderLaws
 pub mod FoundRowLaws

@@ -46,7 +46,8 @@ pub record Went (m n : Machine) (p page : ℕ) : Type 0 where
   pub fits : Fits n p
   pub more : suc (below page (mappedOf m p)) ≤ below (suc page) (mappedOf n p)
 
-never-no : {r : Refusal} → No r ≡ Yes → ⊥
+-- a refusal is no yes
+pub never-no : {r : Refusal} → No r ≡ Yes → ⊥
 never-no {r} e = let z : _≡_ {A = ℕ} 0 1 = cc in omega arith
 
 -- the length of a table after a process's part was replaced

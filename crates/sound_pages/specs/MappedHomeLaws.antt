@@ -1,6 +1,5 @@
 -- Laws of `MappedHome`: the home of a page in a machine that is laid out: at most one attached region holds an address, so the first that does is the only one.
 use mathlib.Core.Path.{_≡_, refl, ap, sym, subst, _∙_}
-use mathlib.Core.Logic.{inl, inr}
 use mathlib.Core.Bool.{Bool, true, false, cond}
 use mathlib.Core.List.{List, [], _∷_}
 use Prim.Native.Nat.{ℕ, zero, suc, _^_, _≤_, _<_, zero-le, suc-le-suc}
@@ -9,7 +8,7 @@ use native.Mathlib.Decide.{ℕ-discrete}
 use native.Mathlib.Numerals.{lt-of-le-of-ne}
 use lib.ListN.{length, getD}
 use lib.Dec.{ltb, leb}
-use borrow.Author.Tests.{ltb-true, ltb-false, leb-true}
+use borrow.Author.Tests.{ltb-true, ltb-false}
 use Rattle.model.specs.declared.Region.{Region}
 use Rattle.model.specs.declared.Found.{Found}
 use Rattle.model.specs.declared.Found.the-variants.{At, Nothing}
@@ -26,6 +25,7 @@ use Rattle.lookup.specs.LookupsLaws.{processes-length, regions-length, slots-le
 use Rattle.laws.specs.ListsLaws.{part-at}
 use Rattle.sound_pages.specs.Laid.{Laid}
 use Rattle.sound_pages.specs.MappedHome.{homeAt}
+use Rattle.model.specs.RuleUseLaws.{apart-alone}
 
 -- ---- a test that at most one slot passes
 
@@ -50,19 +50,6 @@ only-first f (x ∷ l) o = go (f x) refl (only-first f l (λ i j h k. o (suc i) 
     go true e ih = ap (λ t. only (x ∷ t)) (keep-none f l (λ j h. o zero (suc j) (suc-le-suc zero-le) (suc-le-suc h) e))
     go false e ih = ih
 
--- ---- regions apart
-
--- two segments without a common byte hold no common address
-no-common : (r x : Region) (a : ℕ) → Apart r x → contains r a ≡ true → contains x a ≡ true → ⊥
-no-common r x a s h k =
-    let b = both-true _ _ h in
-    let d = both-true _ _ k in
-    go s (leb-true _ _ (b .0)) (ltb-true _ _ (b .1)) (leb-true _ _ (d .0)) (ltb-true _ _ (d .1))
-  where
-    go : Apart r x → r .start .0 ≤ a → a < spanEnd r → x .start .0 ≤ a → a < spanEnd x → ⊥
-    go (inl e) u v y z = omega arith
-    go (inr e) u v y z = omega arith
-
 -- a segment of user addresses holds no start of a page past them
 past-user : (r : Region) (page : ℕ) → segmentEnd r ≤ userEnd → contains r (pageStart page) ≡ true → 2 ^ 52 ≤ page → ⊥
 past-user r page h k l = let b = ltb-true (pageStart page) (spanEnd r) (both-true (leb (r .start .0) (pageStart page)) (ltb (pageStart page) (spanEnd r)) k .1) in omega arith
@@ -74,7 +61,7 @@ module _ (w : List ℕ) (laid : Laid (machine w)) (p : ℕ) (small : p < 8) wher
   -- of two slots in use, the first before the second, one does not hold an address
   before-apart : (s t a : ℕ) → s < t → t < 64 → Used (regionAt (machine w) p s) → Used (regionAt (machine w) p t) → contains (regionAt (machine w) p s) a ≡ true → contains (regionAt (machine w) p t) a ≡ true → ⊥
   before-apart s t a h k u v =
-      no-common (regionAt (machine w) p s) (regionAt (machine w) p t) a
+      apart-alone (regionAt (machine w) p s) (regionAt (machine w) p t) a
       (subst (λ (r : Region). Apart r (regionAt (machine w) p t)) (at s (omega arith))
       (subst (λ (x : Region). Apart (getD (regionsOf (machine w) p) s noRegion) x) (at t k)
       (laid .apart p process-row s t h (rw (slots-length w p small) k) (subst Used (sym (at s (omega arith))) u) (subst Used (sym (at t k)) v))))
