@@ -13,7 +13,7 @@ use Rattle.laws.specs.ListsLaws.{keep-most}
 use Rattle.backing.specs.BackingLaws.{sound-ready, used-low}
 use Rattle.laws.specs.CountLaws.{count-most}
 
-holds-most : (m : Machine) → length (holds m) ≤ length (m .entries) + length (m .regions)
+pub holds-most : (m : Machine) → length (holds m) ≤ length (m .entries) + length (m .regions)
 unfolding holds entryHolds rangeHolds
 holds-most m =
     let entries = keep-most (λ e. not (eqb (e .owner) 0)) (m .entries) in

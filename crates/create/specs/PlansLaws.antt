@@ -1,7 +1,7 @@
 -- Laws of `Plans`: what creation plans: the first refusal, or the spot, the run and the slot that the searches find.
 use mathlib.Core.Path.{_≡_, refl, ap, sym, _∙_}
 use mathlib.Core.Bool.{Bool, true, false, _&&_, not, cond, and-true, and-false}
-use mathlib.Core.List.{List, [], _∷_, _++_}
+use mathlib.Core.List.{[], _∷_, _++_}
 use Prim.Native.Nat.{ℕ}
 use native.Mathlib.Omega.{arith}
 use borrow.Author.Tests.{not-false}
@@ -23,7 +23,7 @@ use Rattle.backing.specs.BackingSteps.{foundFrame}
 use Rattle.create.specs.declared.plan.Plan.{Plan}
 use Rattle.create.specs.declared.plan.Planned.{Planned}
 use Rattle.create.specs.declared.plan.Planned.the-variants.{Go}
-use Rattle.lookup.specs.FirstOfLaws.{first-here, first-later, first-none, first-passed, no-refusal}
+use Rattle.lookup.specs.FirstOfLaws.{first-here, first-later, first-none, first-passed, first-before, first-after}
 use Rattle.create.specs.RequestRefused.{requestRefusals}
 use Rattle.create.specs.Plans.{runFor, searchRefusals, frameFound, planFor, unlessRefused, foundPlan, searched, planned, PlanFits}
 use Rattle.model.specs.FoundRowLaws.{found-row}
@@ -105,24 +105,6 @@ module _ (m : Machine) (p : ℕ) (place : Place) (eager : Bool) (r : Region) whe
           passes = past-run (first-later _ TableFull _ _ (ap (λ (x : Found). not (isFound x)) (sym f)) first-none)
 
 -- ---- the whole: what is asked for, then the searches
-
-first-before : (l k : List (Bool × Refusal)) (q : Refusal) → No q ≡ firstOf l → No q ≡ firstOf (l ++ k)
-unfolding firstOf
-first-before [] k q e = absurd (no-refusal (sym e))
-first-before (t ∷ l) k q e = go (t .0) e (first-before l k q)
-  where
-    go : (b : Bool) → No q ≡ cond b (No (t .1)) (firstOf l) → (No q ≡ firstOf l → No q ≡ firstOf (l ++ k)) → No q ≡ cond b (No (t .1)) (firstOf (l ++ k))
-    go true f ih = f
-    go false f ih = ih f
-
-first-after : (l k : List (Bool × Refusal)) → Yes ≡ firstOf l → firstOf k ≡ firstOf (l ++ k)
-unfolding firstOf
-first-after [] k e = refl
-first-after (t ∷ l) k e = go (t .0) e (first-after l k)
-  where
-    go : (b : Bool) → Yes ≡ cond b (No (t .1)) (firstOf l) → (Yes ≡ firstOf l → firstOf k ≡ firstOf (l ++ k)) → firstOf k ≡ cond b (No (t .1)) (firstOf (l ++ k))
-    go true f ih = absurd (no-refusal f)
-    go false f ih = ih f
 
 module _ (m : Machine) (p : ℕ) (place : Place) (eager : Bool) (r : Region) where
   parts : requestRefusals m p place r ++ searchRefusals m p place eager r ≡ createRefusals m p place eager r

@@ -26,6 +26,7 @@ use Rattle.model.specs.Calls as calls
 use Rattle.model.specs.Run.{Call, call, step}
 use Rattle.model.specs.Sound.{Sound}
 use Rattle.model.specs.Posix.{view, homeSlot, PrivateAt, Inherited, ForkInherits, ForkKeepsOthers, CloneInherits, CloneKeepsOthers}
+use Rattle.keeping.specs.Grows.{grows-listed}
 use Rattle.keeping.specs.GuardedKept.{Passed, passed}
 use Rattle.laws.specs.In.{In}
 use Rattle.laws.specs.InListsLaws.{in-keep, keep-in}
@@ -122,7 +123,7 @@ module _ (t : ℕ) (l : List ℕ) (s : State) (p q : ℕ) (k : Coming (t ∷ l) 
   pub coming-on : Coming l (first .state) p q
   coming-on =
       let kept = clone-core s (k .sound) p t q (k .listed t (inl refl)) (k .opened) in
-      record { sound = kept .0; listed = λ j i. kept .1 .listed p j (k .listed j (inr i)); opened = kept .1 .opened q (k .opened) }
+      record { sound = kept .0; listed = λ j i. grows-listed (kept .1) p j (k .listed j (inr i)); opened = kept .1 .opened q (k .opened) }
 
 -- a property of the whole from that of the first and that of the rest
 abbrev pub Rest : (State → Type 0) → Done → State → List ℕ → ℕ → ℕ → Type 0

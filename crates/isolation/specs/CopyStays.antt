@@ -37,6 +37,7 @@ use Rattle.keeping.specs.BackingsKept.{FreeRun}
 use Rattle.keeping.specs.EntriesKept.{entryOn, free-row}
 use Rattle.keeping.specs.FrameLengthLaws.{bytes-length}
 use Rattle.keeping.specs.AddedKept.{free-slot}
+use Rattle.keeping.specs.Grows.{grows-listed}
 use Rattle.keeping.specs.CloneCopyKept as copies
 use Rattle.isolation.specs.ViewLaws.{home-at, at-home, kind-at, looks, backedBy, seen-as, kind-as}
 use Rattle.isolation.specs.LoneHolder.{in-base, OwnEntry}
@@ -272,7 +273,7 @@ module _ (s : State) (sound : Sound s) (p t q : ℕ) (listed : In t (orderOf (s 
     rows = λ j z. ap (λ l. getD l j noRegion) n-regions ∙ getD-set-other (machine .regions) row j (copiedRow r) noRegion z;
     old = λ i. old i (row-now i);
     frames = λ i pg base fr b j h. more .frames fr (used-added fr (backs-use machine o i pg base fr b)) j h;
-    listed = λ x v i. copies.copy-grows s o (sound-lent s sound) p t q listed opened free clear copy .listed x v i;
+    listed = grows-listed (copies.copy-grows s o (sound-lent s sound) p t q listed opened free clear copy);
     others = λ x z. books-order x books ∙ add-other nothing machine o q opened free (copiedRow r) x z;
     own = own-only;
   }

@@ -37,6 +37,7 @@ use Rattle.keeping.specs.PagesKept.{few-pages}
 use Rattle.keeping.specs.EntriesKept.{entryOn, free-row}
 use Rattle.keeping.specs.AddedKept.{Added, added-order, added-other, free-slot}
 use Rattle.keeping.specs.ClonePagesLaws.{single-of, entries-fewer, entry-left}
+use Rattle.keeping.specs.Grows.{grows-listed}
 use Rattle.keeping.specs.CloneShareKept as sharing
 use Rattle.isolation.specs.ViewLaws.{Home, home-at, at-home, looks, seen-as, kind-as}
 use Rattle.isolation.specs.Undisturbed.{EntriesTo, Alike, frame-alike}
@@ -232,7 +233,7 @@ module _ (s : State) (sound : Sound s) (p t q : ℕ) (listed : In t (orderOf (s 
     rows = λ j z. ap (λ l. getD l j noRegion) n-regions ∙ getD-set-other (m .regions) row j (sharedRow r) noRegion z;
     old = λ i. old i (row-now i);
     frames = λ i pg base fr b j h. refl;
-    listed = λ x v i. sharing.share-grows nothing m o p t q listed opened free clear .listed x v i;
+    listed = grows-listed (sharing.share-grows nothing m o p t q listed opened free clear);
     others = others;
     own = own-only;
   }

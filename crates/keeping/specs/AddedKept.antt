@@ -6,7 +6,7 @@ use mathlib.Core.List.{List, [], _∷_, _++_}
 use Prim.Native.Nat.{ℕ, _/_, _%_, _≤_, _<_}
 use native.Mathlib.Omega.{arith}
 use lib.ListN.{length, getD, set}
-use lib.Seq.{getD-set-same, set-set}
+use lib.Seq.{getD-set-same, getD-set-other, set-set}
 use lib.Dec.{eqb}
 use borrow.Author.Tests.{eqb-true}
 use Rattle.model.specs.declared.Region.{Region}
@@ -166,3 +166,8 @@ module _ (d : ℕ → ℕ) (m : Machine) (p : ℕ) (r : Region) (o : Owing (owes
   pub added-opened : (q : ℕ) → processAt (addRegion m p r) q .opened ≡ processAt m q .opened
   unfolding addRegion withOrder orderOf
   added-opened q = opened-same d put put-owing p (new .opened) list q
+
+  -- and regions in use
+  pub added-row : (q s : ℕ) → Used (regionAt m q s) → regionAt (addRegion m p r) q s ≡ regionAt m q s
+  unfolding addRegion withOrder
+  added-row q s u = getD-set-other (m .regions) row (rowOf q s) r noRegion (λ z. u (ap (λ (j : ℕ). rowAt m j .kind) z ∙ is .1))

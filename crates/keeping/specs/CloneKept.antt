@@ -29,7 +29,7 @@ use Rattle.keeping.specs.SoundOfOwing.{owing-sound}
 use Rattle.keeping.specs.GuardedKept.{Passed, passed, guarded-kept}
 use Rattle.keeping.specs.ArgumentLaws.{named-at, is-open}
 use Rattle.keeping.specs.CoreKept.{lent-as}
-use Rattle.keeping.specs.Grows.{Grows, grows-same}
+use Rattle.keeping.specs.Grows.{Grows, grows-listed, grows-same}
 use Rattle.keeping.specs.CloneShareKept as sharing
 use Rattle.keeping.specs.CloneCopyKept as copying
 
@@ -79,7 +79,7 @@ module _ (s : State) (sound : Sound s) (p t q : ℕ) (listed : In t (orderOf (s 
           copied (f .0) (k .0) e (omega arith) (omega arith)
       go false e f g = let n = needed false e in let a = ltb-false (freeEntries m) (entriesNeeded m p t) (f .1) in shared (f .0) (k .0) (omega arith)
 
-  -- a region cloned or refused: sound, and lists and open processes only grow
+  -- a region cloned or refused: sound; lists only grow at their end, regions in use and open processes stay
   pub clone-core : Cloned (coreCloneRegion s p t q .state)
   unfolding coreCloneRegion
   clone-core = go (firstOf (cloneRefusals m p t q)) refl
@@ -87,7 +87,7 @@ module _ (s : State) (sound : Sound s) (p t q : ℕ) (listed : In t (orderOf (s 
       go : (d : Done) → firstOf (cloneRefusals m p t q) ≡ d
           → Cloned (unless d s (fine (cond (isCopied (regionAt m p t)) (copyInto s p t q) (shareInto s p t q))) .state)
       go Yes e = went (passed _ e)
-      go (No x) e = (sound, grows-same refl refl)
+      go (No x) e = (sound, grows-same refl refl refl)
 
 pub clone-region-kept : (s : State) → Sound s → (p a q : ℕ) → Sound (step (Call.cloneRegion p a q) s)
 unfolding step call calls.cloneRegion cloneRegionRefusals
@@ -102,7 +102,7 @@ unfolding cloneEach
 each-cloned [] s p q sound listed opened = sound
 each-cloned (t ∷ l) s p q sound listed opened =
     go (coreCloneRegion s p t q .answer) (coreCloneRegion s p t q .state) (clone-core s sound p t q (listed t (inl refl)) opened)
-    (λ u k. each-cloned l u p q (k .0) (λ j i. k .1 .listed p j (listed j (inr i))) (k .1 .opened q opened))
+    (λ u k. each-cloned l u p q (k .0) (λ j i. grows-listed (k .1) p j (listed j (inr i))) (k .1 .opened q opened))
   where
     go : (d : Done) (u : State) → Sound u × Grows (s .machine) (u .machine)
         → ((u : State) → Sound u × Grows (s .machine) (u .machine) → Sound (cloneEach l u p q .state))

@@ -42,7 +42,7 @@ use Rattle.keeping.specs.AddedKept.{Added, free-slot, added-kept}
 use Rattle.keeping.specs.SpotLaws.{unreserved, clear-apart}
 use Rattle.keeping.specs.ClonePagesLaws.{single-of, once-single, EntryOf, single-fits}
 use Rattle.keeping.specs.ShareKept.{Demoted, Bare, held-more, only-range, Sharing, shared-all, bare-new}
-use Rattle.keeping.specs.Grows.{Grows, grows-same, grows-then, share-each, share-lends, added-grows}
+use Rattle.keeping.specs.Grows.{Grows, grows-lists, grows-same, grows-then, share-each, share-lends, added-grows}
 
 read-twice : (f : ℕ) → readOnly (readOnly f) ≡ readOnly f
 unfolding readOnly bit
@@ -251,6 +251,10 @@ module _ (d : ℕ → ℕ) (m : Machine) (o : Owing d m) (p t q : ℕ) (listed :
   unfolding withMapped
   m1-regions j = refl
 
+  m1-table : m1 .regions ≡ m .regions
+  unfolding withMapped
+  m1-table = refl
+
   m1-order : (p' : ℕ) → orderOf m1 p' ≡ orderOf m p'
   m1-order p' = order-mapped m p p' table
 
@@ -327,8 +331,8 @@ module _ (d : ℕ → ℕ) (m : Machine) (o : Owing d m) (p t q : ℕ) (listed :
 
   ready-grows : (b : Bool) → Grows m1 (ready b)
   unfolding hold withBackings
-  ready-grows true = grows-same refl refl
-  ready-grows false = grows-same refl refl
+  ready-grows true = grows-same refl refl refl
+  ready-grows false = grows-same refl refl refl
 
   ready-lends : (b : Bool) → Lends m (ready b)
   unfolding hold withBackings withMapped
@@ -341,7 +345,7 @@ module _ (d : ℕ → ℕ) (m : Machine) (o : Owing d m) (p t q : ℕ) (listed :
   share-grows = go (isRanged r) refl
     where
       first : Grows m m1
-      first = record { listed = λ p' s i. subst (λ l. In s l) (sym (m1-order p')) i; opened = λ p' e. opened-same d m o p p-opened table p' ∙ e }
+      first = grows-lists m1-order m1-table (λ p' e. opened-same d m o p p-opened table p' ∙ e)
 
       go : (b : Bool) → isRanged r ≡ b
           → Grows m (each (shareEntry row) (singlePages (m .entries) src) (addRegion (cond b (hold m1 (r .range .0)) m1) q (sharedRow r)))

@@ -1,7 +1,7 @@
 -- Refusals test by test: the first test that is true gives its refusal; and the test for an open process.
 use mathlib.Core.Path.{_≡_, refl, ap, sym, _∙_}
-use mathlib.Core.Bool.{Bool, true, false, not, false≢true}
-use mathlib.Core.List.{List, [], _∷_}
+use mathlib.Core.Bool.{Bool, true, false, not, cond, false≢true}
+use mathlib.Core.List.{List, [], _∷_, _++_}
 use Prim.Native.Nat.{ℕ, _≤_, _<_}
 use native.Mathlib.Omega.{arith}
 use lib.ListN.{getD, List·getD-eq-default}
@@ -43,6 +43,26 @@ no-refusal {r} e = let z : _≡_ {A = ℕ} 0 1 = cc in omega arith
 -- where nothing refuses, the first test is false and nothing else refuses
 pub first-passed : (b : Bool) (r : Refusal) (l : List (Bool × Refusal)) → Yes ≡ firstOf ((b, r) ∷ l) → (b ≡ false) × (Yes ≡ firstOf l)
 first-passed b r l e = let p = first-yes b r l (sym e) in (p .0, sym (p .1))
+
+-- tests before others, and after others
+
+pub first-before : (l k : List (Bool × Refusal)) (q : Refusal) → No q ≡ firstOf l → No q ≡ firstOf (l ++ k)
+unfolding firstOf
+first-before [] k q e = absurd (no-refusal (sym e))
+first-before (t ∷ l) k q e = go (t .0) e (first-before l k q)
+  where
+    go : (b : Bool) → No q ≡ cond b (No (t .1)) (firstOf l) → (No q ≡ firstOf l → No q ≡ firstOf (l ++ k)) → No q ≡ cond b (No (t .1)) (firstOf (l ++ k))
+    go true f ih = f
+    go false f ih = ih f
+
+pub first-after : (l k : List (Bool × Refusal)) → Yes ≡ firstOf l → firstOf k ≡ firstOf (l ++ k)
+unfolding firstOf
+first-after [] k e = refl
+first-after (t ∷ l) k e = go (t .0) e (first-after l k)
+  where
+    go : (b : Bool) → Yes ≡ cond b (No (t .1)) (firstOf l) → (Yes ≡ firstOf l → firstOf k ≡ firstOf (l ++ k)) → firstOf k ≡ cond b (No (t .1)) (firstOf (l ++ k))
+    go true f ih = absurd (no-refusal f)
+    go false f ih = ih f
 
 -- ---- an open process
 

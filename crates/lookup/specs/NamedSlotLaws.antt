@@ -1,14 +1,19 @@
--- What calls use of a sound machine: slots in list order are slots.
-use mathlib.Core.Path.{_≡_, ap, sym, _∙_}
+-- What calls use of a sound machine: backings are no longer than the frames, slots in list order are slots.
+use mathlib.Core.Path.{_≡_, refl, ap, sym, _∙_}
 use mathlib.Core.Bool.{Bool, true, false, cond}
 use mathlib.Core.List.{List, [], _∷_}
-use Prim.Native.Nat.{ℕ, zero, suc, _<_, zero-le, suc-le-suc}
+use Prim.Native.Nat.{ℕ, zero, suc, _≤_, _<_, zero-le, suc-le-suc}
 use native.Mathlib.Omega.{arith}
-use lib.ListN.{length, getD}
+use native.Mathlib.Decide.{ℕ-discrete}
+use lib.ListN.{length, getD, List·getD-eq-default}
+use lib.Dec.{ltb}
+use borrow.Author.Tests.{ltb-true, ltb-false}
+use Rattle.model.specs.declared.Backing.{Backing}
 use Rattle.model.specs.declared.Found.the-variants.{At}
-use Rattle.model.specs.Machine.{orderOf, regionAt}
+use Rattle.model.specs.Machine.{orderOf, regionAt, noBacking}
 use Rattle.model.specs.Layout.{machine}
 use Rattle.model.specs.Lookup.{firstSlot, regionFor, contains}
+use Rattle.model.specs.Backing.{backingAt}
 use Rattle.model.specs.Sound.{Sound}
 use Rattle.model.specs.RecordLaws.{sound-tells}
 use Rattle.model.specs.LookupLaws.{never-found, same-slot}
@@ -24,6 +29,15 @@ use Rattle.lookup.specs.NamedLaws.{named-slot, region-yes}
 
 pub sound-of : {w : List ℕ} (k : SoundWords w) → Sound (stateOf w (k .frames) (k .files))
 sound-of k = sound-tells _ .yes (k .sound)
+
+-- no backing has more than 256 frames
+pub words-len : (w : List ℕ) → SoundWords w → (f : ℕ) → backingAt (machine w) f .len ≤ 256
+words-len w k f = go (ltb f (length (machine w .backings))) refl (ℕ-discrete (backingAt (machine w) f .len) 0)
+  where
+    go : (b : Bool) → ltb f (length (machine w .backings)) ≡ b → Dec (backingAt (machine w) f .len ≡ 0) → backingAt (machine w) f .len ≤ 256
+    go b e (yes z) = omega arith
+    go true e (no z) = let last = sound-of k .r2 .within f (ltb-true f (length (machine w .backings)) e) z in let few = sound-of k .r6 .sized .frameCount in omega arith
+    go false e (no z) = absurd (z (ap (λ (b : Backing). b .len) (List·getD-eq-default (machine w .backings) noBacking {n = f} (ltb-false f (length (machine w .backings)) e))))
 
 -- a slot that is found is one of the list
 found-below : (f : ℕ → Bool) (l : List ℕ) (n : ℕ) → ((i : ℕ) → i < length l → getD l i 0 < n) → (s : ℕ) → firstSlot f l ≡ At s → s < n

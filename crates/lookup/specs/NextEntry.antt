@@ -1,4 +1,6 @@
 -- A region's page entries in page order: the next one from a page on, how a loop finds it, and what it is.
+use mathlib.Core.Path.{_≡_}
+use mathlib.Core.Logic.{_≢_}
 use mathlib.Core.Bool.{Bool, true, _&&_, cond}
 use mathlib.Core.List.{List, [], _∷_}
 use Prim.Native.Nat.{ℕ, _+_}
@@ -7,7 +9,9 @@ use lib.Dec.{eqb, leb}
 use Rattle.model.specs.declared.Entry.{Entry}
 use Rattle.model.specs.declared.Found.{Found}
 use Rattle.model.specs.declared.Found.the-variants.{At, Nothing}
+use Rattle.laws.specs.Tests.{Pairs}
 use Rattle.model.specs.Machine.{noEntry}
+use Rattle.model.specs.Clone.{Held}
 
 -- whether an entry is an owner's, from a page on
 abbrev pub entryFrom : ℕ → ℕ → Entry → Bool
@@ -33,3 +37,11 @@ nextFrom t owner page (e ∷ l) i = let later = nextFrom t owner page l (i + 1) 
 -- .. of the entries of the region in a row
 unfoldable pub nextEntry : List Entry → ℕ → ℕ → Found
 nextEntry t row page = nextFrom t (row + 1) page t 0
+
+-- an entry's page and frame
+abbrev pub heldOf : Entry → Held
+heldOf e = record { page = e .page .0; frame = e .frame .0 }
+
+-- R6: entries of a region, one a page
+abbrev pub OnceAPage : List Entry → Type 0
+OnceAPage t = Pairs noEntry t (λ e. e .owner ≢ 0) (λ e f. e .owner ≡ f .owner → e .page .0 ≢ f .page .0)

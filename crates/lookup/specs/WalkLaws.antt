@@ -12,16 +12,11 @@ use Rattle.model.specs.declared.Entry.{Entry}
 use Rattle.model.specs.declared.Found.{Found}
 use Rattle.model.specs.declared.Found.the-variants.{At, Nothing}
 use Rattle.laws.specs.Lists.{keep}
-use Rattle.laws.specs.Tests.{Pairs}
 use Rattle.model.specs.Machine.{noEntry}
 use Rattle.model.specs.LookupLaws.{never-found, same-slot}
 use Rattle.model.specs.Clone.{Held, inOrder, singlePages}
-use Rattle.lookup.specs.NextEntry.{entryFrom, notAfter, nextFrom, nextEntry}
+use Rattle.lookup.specs.NextEntry.{entryFrom, notAfter, nextFrom, nextEntry, heldOf, OnceAPage}
 use Rattle.lookup.specs.NextEntryLaws.{next-within, Lowest, lowest-from, is-from, not-from, first-is, rest-is}
-
--- an entry's page and frame
-abbrev pub heldOf : Entry → Held
-heldOf e = record { page = e .page .0; frame = e .frame .0 }
 
 -- those from a page on
 abbrev pub heldFrom : ℕ → List Held → List Held
@@ -30,10 +25,6 @@ heldFrom k l = keep (λ h. leb k (h .page)) l
 -- a region's pages from a page on
 abbrev pub pagesFrom : ℕ → List Entry → ℕ → List Held
 pagesFrom k l row = heldFrom k (singlePages l row)
-
--- R6: entries of a region, one a page
-abbrev pub OnceAPage : List Entry → Type 0
-OnceAPage t = Pairs noEntry t (λ e. e .owner ≢ 0) (λ e f. e .owner ≡ f .owner → e .page .0 ≢ f .page .0)
 
 -- ---- those from a page on, of a list
 

@@ -19,6 +19,7 @@ pub mod Access
 pub mod Refusals
 pub mod Calls
 pub mod Run
+pub mod Meant
 -- the rules R1 to R6, and POSIX
 pub mod Sound
 pub mod SoundTest

@@ -1,4 +1,4 @@
-// The rows of the machine's tables and the answers of its calls. What they mean stands in specs/.
+// The rows of the machine's tables, its calls and their answers. What they mean stands in specs/.
 ghost use mathlib.Core.Path.{_≡_};
 ghost use Rattle.model.specs.Create.{isCopy, isEager};
 use address::Page;
@@ -214,9 +214,133 @@ pub enum Loaded {
     No(Refusal),
 }
 
-// The answer of carve and of the list of regions: the first `count` of `starts` are the regions' starts, the rest 0.
+// The answer of carve and of the list of regions, as the definitions have it: the first `count` of `starts` are the regions' starts,
+// the rest 0. Code answers `Counted` and puts the starts into lent memory.
 pub struct Listed {
     pub done: Done,
     pub count: u64,
     pub starts: [u64; 64],
+}
+
+// A call of the machine. Start is not among them: it is lent the files' rows.
+pub enum Call {
+    Sound,
+    Open {
+        start: VirtAddr,
+        size: u64,
+    },
+    Close {
+        process: u64,
+    },
+    CreatePrivate {
+        process: u64,
+        place: Place,
+        population: Population,
+        size: u64,
+        flags: u64,
+        fork: ForkPolicy,
+        thread: bool,
+    },
+    CreateFile {
+        process: u64,
+        place: Place,
+        size: u64,
+        flags: u64,
+        fork: ForkPolicy,
+        thread: bool,
+        file: u64,
+        offset: u64,
+        len: u64,
+    },
+    CreateShared {
+        process: u64,
+        place: Place,
+        size: u64,
+    },
+    Remove {
+        process: u64,
+        addr: VirtAddr,
+    },
+    Clear {
+        process: u64,
+    },
+    Carve {
+        process: u64,
+        start: u64,
+        end: u64,
+    },
+    Covers {
+        process: u64,
+        start: u64,
+        end: u64,
+    },
+    Region {
+        process: u64,
+        addr: VirtAddr,
+    },
+    Regions {
+        process: u64,
+    },
+    Fault {
+        process: u64,
+        addr: VirtAddr,
+        write: bool,
+    },
+    Populate {
+        process: u64,
+        addr: VirtAddr,
+        len: u64,
+        write: bool,
+    },
+    Eager {
+        process: u64,
+    },
+    CloneRegion {
+        process: u64,
+        addr: VirtAddr,
+        target: u64,
+    },
+    Clone {
+        process: u64,
+        target: u64,
+    },
+    Protect {
+        process: u64,
+        addr: VirtAddr,
+        flags: u64,
+    },
+    Pin {
+        process: u64,
+        addr: VirtAddr,
+    },
+    Unpin {
+        process: u64,
+        addr: VirtAddr,
+    },
+    Load {
+        process: u64,
+        addr: VirtAddr,
+    },
+    Store {
+        process: u64,
+        addr: VirtAddr,
+        byte: u8,
+    },
+}
+
+// The answer of carve and of the list of regions where memory for 64 starts is lent: how many stand there. Zeros stand behind them, and
+// alone where the call is refused.
+pub struct Counted {
+    pub done: Done,
+    pub count: u64,
+}
+
+// The answer of any call.
+pub enum Answer {
+    Done(Done),
+    Opened(Opened),
+    Placed(Placed),
+    Covering(Covering),
+    Loaded(Loaded),
+    Counted(Counted),
 }

@@ -51,7 +51,7 @@ module _ (m : Machine) (p : ℕ) (w : WellPaged m p) where
   counted = let l = long in let n = w .few in sym (length-take-le (processAt m p .mapped) (part 128 p (m .mapped)) (omega arith))
 
   -- the rows are the mapped ones and free ones after them
-  padded : rowsOf m p ≡ pad 128 noMapping (mappedOf m p)
+  pub padded : rowsOf m p ≡ pad 128 noMapping (mappedOf m p)
   unfolding mappedOf rowsOf
   padded = sym (ap (λ (k : ℕ). pad k noMapping (take (processAt m p .mapped) (part 128 p (m .mapped)))) (sym long) ∙ pad-take noMapping (part 128 p (m .mapped)) (processAt m p .mapped) (w .paged .free))
 
@@ -61,7 +61,7 @@ module _ (m : Machine) (p : ℕ) (w : WellPaged m p) where
   both-put rows l n e f = ap (λ t. withCount (withRows m p t) p n) e ∙ ap (λ (i : ℕ). withCount (withRows m p (pad 128 noMapping l)) p i) f
 
   -- .. and the count is what it was
-  rows-put : (rows l : List Mapping) → rows ≡ pad 128 noMapping l → length l ≡ length (mappedOf m p) → withRows m p rows ≡ withMapped m p l
+  pub rows-put : (rows l : List Mapping) → rows ≡ pad 128 noMapping l → length l ≡ length (mappedOf m p) → withRows m p rows ≡ withMapped m p l
   unfolding withCount withRows withMapped
   rows-put rows l e f =
       ap (λ t. withRows m p t) e

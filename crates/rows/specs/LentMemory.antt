@@ -41,3 +41,7 @@ Does call words frames words' frames' r = (files : List ℕ) → soundb (stateOf
 -- the same of a core that has no frames at hand
 abbrev pub DoesWords : {A : Type 0} → (State → After A) → (words words' : List ℕ) → A → Type 0
 DoesWords call words words' r = (frames : List ℕ) → Does call words frames words' frames r
+
+-- the same of a core that reads the files' bytes: on the files that are lent
+abbrev pub DoesWith : {A : Type 0} → (State → After A) → (words frames files words' frames' : List ℕ) → A → Type 0
+DoesWith call words frames files words' frames' r = call (stateOf words frames files) ≡ leaving r (stateOf words' frames' files)
