@@ -1,15 +1,18 @@
 -- What bytes put at a frame's place come to: the model's definitions of frames zeroed, copied and filled.
 use mathlib.Core.Path.{_≡_, refl, sym, ap, _∙_}
+use mathlib.Core.Logic.{inl, inr}
+use mathlib.Core.Bool.{Bool, true, false}
 use mathlib.Core.List.{List, [], _∷_, _++_}
 use Prim.Native.Nat.{ℕ, zero, suc, _+_, _-_, _*_, _≤_}
 use native.Mathlib.Nat.{le-of-suc-le-suc, add-zero}
 use native.Mathlib.Numerals.{unary-clauses}
 use native.Mathlib.Omega.{arith}
 use lib.ListN.{length, take, drop, replicate, length-replicate, replicate-append-replicate, take-append-drop}
-use lib.Seq.{take-at}
+use lib.Dec.{leb}
+use borrow.Author.Tests.{leb-true, leb-false}
 use Rattle.laws.specs.Lists.{pad, each, upFrom}
 use Rattle.model.specs.Backing.{frameBytes, putFrame, zeroFrames}
-use Rattle.frames.specs.PutBytes.{putAt}
+use Rattle.frames.specs.PutBytes.{putAt, Keeps}
 use Rattle.frames.specs.PutBytesLaws.{put-put, length-putAt, length-part}
 
 -- a frame's worth of bytes, put at its place
@@ -56,22 +59,21 @@ zero-run (suc n) f l h =
     ∙ ap (λ (k : ℕ). putAt zeroed k (zeros (n * 4096))) next
     ∙ zero-run n (f + 1) zeroed rest
 
--- bytes put by way of a page of one's own, z before
-through : (l z new page m : List ℕ) (at n : ℕ) → length new ≡ n → page ≡ putAt z 0 new → m ≡ putAt l at (take n (drop 0 page)) → m ≡ putAt l at new
-unfolding putAt
-through l z new page m at n e p q =
-    q ∙ ap (λ (t : List ℕ). putAt l at (take n t)) p ∙ ap (putAt l at) (take-at new (drop (0 + length new) z) n e)
+-- two frames are the same or apart
+pub frames-apart : (from to i j : ℕ) → i ≡ from * 4096 → j ≡ to * 4096 → Keeps i j 4096
+frames-apart from to i j here there = go (leb to from) refl
+  where
+    go : (b : Bool) → leb to from ≡ b → Keeps i j 4096
+    go true e = let h = leb-true to from e in inl (omega arith)
+    go false e = let h = leb-false to from e in inr (omega arith)
 
 -- the places i and j of two frames
-pub copy-is : (l z page m : List ℕ) (from to i j : ℕ) → i ≡ from * 4096 → j ≡ to * 4096 → from * 4096 + 4096 ≤ length l → page ≡ putAt z 0 (take 4096 (drop i l))
-    → m ≡ putAt l j (take 4096 (drop 0 page)) → m ≡ putFrame l to (frameBytes l from)
+pub copy-is : (l m : List ℕ) (from to i j : ℕ) → i ≡ from * 4096 → j ≡ to * 4096 → from * 4096 + 4096 ≤ length l → m ≡ putAt l j (take 4096 (drop i l)) → m ≡ putFrame l to (frameBytes l from)
 unfolding frameBytes
-copy-is l z page m from to i j here there h read put =
-    let p = read ∙ ap (λ (k : ℕ). putAt z 0 (take 4096 (drop k l))) here in
-    let q = put ∙ ap (λ (k : ℕ). putAt l k (take 4096 (drop 0 page))) there in
+copy-is l m from to i j here there h put =
     let part : List ℕ = take 4096 (drop (from * 4096) l) in
     let long : length part ≡ 4096 = length-part l (from * 4096) 4096 (omega arith) in
-    through l z part page m (to * 4096) 4096 long p q ∙ put-frame l to part long
+    put ∙ (λ k. putAt l (there k) (take 4096 (drop (here k) l))) ∙ put-frame l to part long
 
 -- the model's padding
 pad-is : (n : ℕ) (b : List ℕ) → length b ≤ n → b ++ zeros (n - length b) ≡ pad n 0 b

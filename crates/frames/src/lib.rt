@@ -4,6 +4,7 @@ pub mod raw;
 use address::PhysAddr;
 use address::PhysFrame;
 use model::FRAME_BYTES;
+use raw::copy_within;
 use raw::put_bytes;
 use raw::put_zeros;
 ghost use mathlib.Core.Path.{_≡_};
@@ -52,16 +53,13 @@ pub fn zero_run(frames: &mut [u8], f: PhysFrame, n: usize)
     put_zeros(frames, first_byte(f), n * FRAME_BYTES);
 }
 
-// Frame `to` gets the bytes of frame `from`, which may be the same. They go through a page, of which the compiled code keeps
-// nothing: it is one move of 4,096 bytes.
+// Frame `to` gets the bytes of frame `from`, which may be the same.
 pub fn copy(frames: &mut [u8], from: PhysFrame, to: PhysFrame)
     requires { ⌜ from .0 * 4096 + 4096 ≤ length (now frames) ⌝ }
     requires { ⌜ to .0 * 4096 + 4096 ≤ length (now frames) ⌝ }
     ensures { λ _. ⌜ now (frames .exit) ≡ putFrame (now (frames .entry)) (to .0) (frameBytes (now (frames .entry)) (from .0)) ⌝ }
 {
-    let mut page = [0; FRAME_BYTES];
-    put_bytes(&mut page, 0, &frames[..], first_byte(from), FRAME_BYTES);
-    put_bytes(frames, first_byte(to), &page, 0, FRAME_BYTES);
+    copy_within(frames, first_byte(from), first_byte(to), FRAME_BYTES);
 }
 
 // Frame f gets as many bytes of the files as count says, there from place at on, and zeros after them.

@@ -2,7 +2,7 @@
 ghost use mathlib.Core.Path.{_≡_};
 ghost use Prim.Native.Nat.{_+_, _-_, _≤_};
 ghost use lib.ListN.{length, take, drop, replicate};
-ghost use Rattle.frames.specs.PutBytes.{putAt};
+ghost use Rattle.frames.specs.PutBytes.{putAt, Keeps};
 
 // As many zeros as count says, from place at on.
 pub fn put_zeros(to: &mut [u8], at: usize, count: usize)
@@ -25,6 +25,21 @@ pub fn put_bytes(to: &mut [u8], at: usize, from: &[u8], start: usize, count: usi
     let mut k = 0;
     while k < count {
         to[at + k] = from[start + k];
+        k += 1;
+    }
+}
+
+// As many bytes of the slice itself as count says, from place start on, put from place at on.
+pub fn copy_within(bytes: &mut [u8], start: usize, at: usize, count: usize)
+    requires { ⌜ start + count ≤ length (now bytes) ⌝ }
+    requires { ⌜ at + count ≤ length (now bytes) ⌝ }
+    requires { ⌜ Keeps start at count ⌝ }
+    ensures { λ _. ⌜ now (bytes .exit) ≡ putAt (now (bytes .entry)) at (take count (drop start (now (bytes .entry)))) ⌝ }
+{
+    let mut k = 0;
+    while k < count {
+        let byte = bytes[start + k];
+        bytes[at + k] = byte;
         k += 1;
     }
 }
