@@ -1,100 +1,94 @@
--- Laws of `Detached`: a slot taken out of list order: those that are kept are put one after the other, and zeros after them.
+-- Slots taken out of list order by any test: those that are kept are put one after the other, and zeros after them.
 use mathlib.Core.Path.{_≡_, refl, ap, sym, _∙_}
+use mathlib.Core.Bool.{Bool, true, false}
 use mathlib.Core.List.{List, [], _∷_, _++_}
 use Prim.Native.Nat.{ℕ, _+_, _-_, _*_, _≤_, _<_}
 use native.Mathlib.Omega.{arith}
-use native.Mathlib.Numerals.{add-one}
-use lib.ListN.{length, getD, set, take, replicate, length-replicate, replicate-append-replicate, length-append}
-use lib.Seq.{sets, take-suc, take-all}
-use borrow.Author.Tests.{eq-eqb, ne-eqb}
+use lib.ListN.{length, getD, set, take, replicate, length-replicate, replicate-append-replicate}
+use lib.Seq.{sets}
 use Rattle.laws.specs.Lists.{keep, pad, putPart}
 use Rattle.model.specs.Machine.{Machine, processAt, attachedOf, withProcesses, withOrder, orderOf}
 use Rattle.model.specs.Layout.{machine}
 use Rattle.laws.specs.ListsLaws.{pad-length, keep-append, keep-most, pad-rest, sets-append, sets-after, sets-part}
 use Rattle.rows.specs.With.{withOrderTable}
 use Rattle.lookup.specs.AttachedLaws.{order-slot}
-use Rattle.regions.specs.Detached.{other}
+use Rattle.regions.specs.PickedLaws.{Picks, Picked, picked-first, picked-more, picked-all}
 
 -- ---- one place
 
-leaves : (slot t : ℕ) → t ≡ slot → keep (other slot) (t ∷ []) ≡ []
+pub leaves : (f : ℕ → Bool) (t : ℕ) → f t ≡ false → keep f (t ∷ []) ≡ []
 unfolding keep
-leaves slot t e = rw (eq-eqb t slot e)
+leaves f t e = rw e refl
 
-stays : (slot t : ℕ) → (t ≡ slot → ⊥) → keep (other slot) (t ∷ []) ≡ t ∷ []
+pub stays : (f : ℕ → Bool) (t : ℕ) → f t ≡ true → keep f (t ∷ []) ≡ t ∷ []
 unfolding keep
-stays slot t n = rw (ne-eqb t slot n)
+stays f t e = rw e refl
+
+pub keeps : (f : ℕ → Bool) → Picks (keep f)
+unfolding keep
+keeps f = record { joins = keep-append f; few = keep-most f; none = refl }
 
 -- what stands at a place is put at place a of the order, if it is kept, and is counted
-abbrev pub KeptAt : Machine → Machine → ℕ → ℕ → ℕ → ℕ → ℕ → Type 0
-KeptAt m n a slot t kept r = (r ≡ kept + length (keep (other slot) (t ∷ []))) × (n ≡ withOrderTable m (sets (m .order) a (keep (other slot) (t ∷ []))))
+abbrev pub KeptAt : Machine → Machine → ℕ → (ℕ → Bool) → ℕ → ℕ → ℕ → Type 0
+KeptAt m n a f t kept r = (r ≡ kept + length (keep f (t ∷ []))) × (n ≡ withOrderTable m (sets (m .order) a (keep f (t ∷ []))))
 
-module _ (m : Machine) (a slot t kept x : ℕ) (read : x ≡ t) where
-  pub place-leaves : x ≡ slot → KeptAt m m a slot t kept kept
+module _ (m : Machine) (a : ℕ) (f : ℕ → Bool) (t kept x : ℕ) (read : x ≡ t) where
+  pub place-leaves : f x ≡ false → KeptAt m m a f t kept kept
   place-leaves e =
-      let none = leaves slot t (sym read ∙ e) in
+      let none = leaves f t (ap f (sym read) ∙ e) in
       (let z : kept ≡ kept + 0 = omega arith in z ∙ ap (λ (l : List ℕ). kept + length l) (sym none), ap (λ (l : List ℕ). withOrderTable m (sets (m .order) a l)) (sym none))
 
-  pub place-stays : (n : Machine) → (x ≡ slot → ⊥) → n ≡ withOrderTable m (set (m .order) a x) → KeptAt m n a slot t kept (kept + 1)
+  pub place-stays : (n : Machine) → f x ≡ true → n ≡ withOrderTable m (set (m .order) a x) → KeptAt m n a f t kept (kept + 1)
   place-stays n e z =
-      let one = stays slot t (λ q. e (read ∙ q)) in
+      let one = stays f t (ap f (sym read) ∙ e) in
       (ap (λ (l : List ℕ). kept + length l) (sym one), z ∙ ap (λ (y : ℕ). withOrderTable m (set (m .order) a y)) read ∙ ap (λ (l : List ℕ). withOrderTable m (sets (m .order) a l)) (sym one))
 
 -- ---- one place after the other
 
-abbrev pub keptOf : List ℕ → ℕ → ℕ → ℕ → List ℕ
-keptOf w p slot i = keep (other slot) (take i (orderOf (machine w) p))
-
 -- of the words w those of the first i places of list order that are kept are put, `kept` of them
-abbrev pub Retained : List ℕ → ℕ → ℕ → ℕ → List ℕ → ℕ → ℕ → Type 0
-Retained w p slot n v kept i =
-    ((i ≤ n) × (kept ≤ i)) × ((length v ≡ length w) × ((kept ≡ length (keptOf w p slot i)) × (machine v ≡ withOrderTable (machine w) (sets (machine w .order) (p * 64) (keptOf w p slot i)))))
+abbrev pub Retained : List ℕ → ℕ → (ℕ → Bool) → ℕ → List ℕ → ℕ → ℕ → Type 0
+Retained w p f n v kept i =
+    Picked (keep f) (orderOf (machine w) p) n (machine w .order) (p * 64) (machine v .order) kept i
+    × ((length v ≡ length w) × (machine v ≡ withOrderTable (machine w) (machine v .order)))
 
-module _ (w : List ℕ) (p slot n : ℕ) (sized : n ≡ length (orderOf (machine w) p)) (most : n ≤ 64) where
-  pub retain-first : Retained w p slot n w 0 0
-  unfolding keep
-  retain-first = ((omega arith, omega arith), (refl, (refl, refl)))
+module _ (w : List ℕ) (p : ℕ) (f : ℕ → Bool) (n : ℕ) (sized : n ≡ length (orderOf (machine w) p)) (most : n ≤ 64) where
+  pub retain-first : Retained w p f n w 0 0
+  retain-first = (picked-first (keep f) (keeps f) (orderOf (machine w) p) n sized (machine w .order) (p * 64), (refl, refl))
 
-  module _ (v : List ℕ) (kept i : ℕ) (s : Retained w p slot n v kept i) where
-    pub retain-more : i < n → (u : List ℕ) (r : ℕ) → length u ≡ length v → KeptAt (machine v) (machine u) (p * 64 + kept) slot (getD (machine v .order) (p * 64 + i) 0) kept r → Retained w p slot n u r (i + 1)
-    retain-more h u r long put = ((omega arith, let l = keep-most (other slot) (t ∷ []) in let c = put .0 in omega arith), (long ∙ s .1 .0, (counted, stored)))
+  module _ (v : List ℕ) (kept i : ℕ) (s : Retained w p f n v kept i) where
+    pub retain-more : i < n → (u : List ℕ) (r : ℕ) → length u ≡ length v → KeptAt (machine v) (machine u) (p * 64 + kept) f (getD (machine v .order) (p * 64 + i) 0) kept r → Retained w p f n u r (i + 1)
+    retain-more h u r long put = (picked-more (keep f) (keeps f) (orderOf (machine w) p) n sized (machine w .order) (p * 64) (machine v .order) kept i (s .0) h 0 t here (machine u .order) r (put .0) order, (long ∙ s .1 .0, table))
       where
         t : ℕ
         t = getD (machine v .order) (p * 64 + i) 0
 
-        l : List ℕ
-        l = orderOf (machine w) p
+        fit : p * 64 + length (keep f (take i (orderOf (machine w) p))) ≤ p * 64 + i
+        fit = let c = s .0 .1 .0 in let k = s .0 .0 .1 in omega arith
 
-        fit : p * 64 + length (keptOf w p slot i) ≤ p * 64 + i
-        fit = let c = s .1 .1 .0 in let k = s .0 .1 in omega arith
+        here : t ≡ getD (orderOf (machine w) p) i 0
+        here = ap (λ x. getD x (p * 64 + i) 0) (s .0 .1 .1) ∙ sets-after (machine w .order) (p * 64) (keep f (take i (orderOf (machine w) p))) (p * 64 + i) 0 fit ∙ order-slot w p n sized most i (getD (machine w .order) (p * 64 + i) 0) h refl
 
-        here : t ≡ getD l i 0
-        here = ap (λ (m : Machine). getD (m .order) (p * 64 + i) 0) (s .1 .1 .1) ∙ sets-after (machine w .order) (p * 64) (keptOf w p slot i) (p * 64 + i) 0 fit ∙ order-slot w p n sized most i (getD (machine w .order) (p * 64 + i) 0) h refl
+        order : machine u .order ≡ sets (machine v .order) (p * 64 + kept) (keep f (t ∷ []))
+        order = ap (λ (m : Machine). m .order) (put .1)
 
-        more : keptOf w p slot (i + 1) ≡ keptOf w p slot i ++ keep (other slot) (t ∷ [])
-        more =
-            ap (λ (j : ℕ). keptOf w p slot j) (add-one i) ∙ ap (λ x. keep (other slot) x) (take-suc l i 0 (rw sized at h)) ∙ keep-append (other slot) (take i l) (getD l i 0 ∷ [])
-            ∙ ap (λ (x : ℕ). keptOf w p slot i ++ keep (other slot) (x ∷ [])) (sym here)
+        table : machine u ≡ withOrderTable (machine w) (machine u .order)
+        table = put .1 ∙ ap (λ (m : Machine). withOrderTable m (sets (machine v .order) (p * 64 + kept) (keep f (t ∷ [])))) (s .1 .1) ∙ ap (λ x. withOrderTable (machine w) x) (sym order)
 
-        counted : r ≡ length (keptOf w p slot (i + 1))
-        counted = put .0 ∙ ap (λ (k : ℕ). k + length (keep (other slot) (t ∷ []))) (s .1 .1 .0) ∙ sym (length-append (keptOf w p slot i) (keep (other slot) (t ∷ []))) ∙ ap (λ x. length x) (sym more)
-
-        stored : machine u ≡ withOrderTable (machine w) (sets (machine w .order) (p * 64) (keptOf w p slot (i + 1)))
-        stored =
-            put .1
-            ∙ ap (λ (m : Machine). withOrderTable m (sets (m .order) (p * 64 + kept) (keep (other slot) (t ∷ [])))) (s .1 .1 .1)
-            ∙ ap (λ (k : ℕ). withOrderTable (machine w) (sets (sets (machine w .order) (p * 64) (keptOf w p slot i)) (p * 64 + k) (keep (other slot) (t ∷ [])))) (s .1 .1 .0)
-            ∙ ap (λ x. withOrderTable (machine w) x) (sym (sets-append (machine w .order) (p * 64) (keptOf w p slot i) (keep (other slot) (t ∷ []))))
-            ∙ ap (λ x. withOrderTable (machine w) (sets (machine w .order) (p * 64) x)) (sym more)
-
-    pub retain-all : n ≤ i → (kept ≡ length (keep (other slot) (orderOf (machine w) p))) × ((kept ≤ 64) × (machine v ≡ withOrderTable (machine w) (sets (machine w .order) (p * 64) (keep (other slot) (orderOf (machine w) p)))))
+    pub retain-all : n ≤ i → (kept ≡ length (keep f (orderOf (machine w) p))) × ((kept ≤ 64) × (machine v ≡ withOrderTable (machine w) (sets (machine w .order) (p * 64) (keep f (orderOf (machine w) p)))))
     retain-all h =
-        (s .1 .1 .0 ∙ ap (λ x. length (keep (other slot) x)) all, (omega arith, s .1 .1 .1 ∙ ap (λ x. withOrderTable (machine w) (sets (machine w .order) (p * 64) (keep (other slot) x))) all))
-      where
-        all : take i (orderOf (machine w) p) ≡ orderOf (machine w) p
-        all = take-all i (orderOf (machine w) p) (rw sized at h)
+        let all = picked-all (keep f) (keeps f) (orderOf (machine w) p) n sized (machine w .order) (p * 64) (machine v .order) kept i (s .0) h in
+        let low = s .0 .0 .0 in
+        let few = s .0 .0 .1 in
+        (all .0, (omega arith, s .1 .1 ∙ ap (λ x. withOrderTable (machine w) x) (all .1)))
 
 -- ---- zeros after them
+
+-- one zero more behind k of them
+pub zeros-more : (l : List ℕ) (a k : ℕ) → set (sets l a (replicate k 0)) (a + k) 0 ≡ sets l a (replicate (k + 1) 0)
+zeros-more l a k =
+    ap (λ (j : ℕ). set (sets l a (replicate k 0)) (a + j) 0) (sym (length-replicate k 0))
+    ∙ sym (sets-append l a (replicate k 0) (0 ∷ []))
+    ∙ ap (λ x. sets l a x) (replicate-append-replicate k 1 0)
 
 -- of the words w places a to i of list order are 0
 abbrev pub Cleared : List ℕ → ℕ → ℕ → List ℕ → ℕ → Type 0
@@ -108,17 +102,11 @@ module _ (w : List ℕ) (p a : ℕ) where
     pub clear-more : i < 64 → (u : List ℕ) → length u ≡ length v → machine u ≡ withOrderTable (machine v) (set (machine v .order) (p * 64 + i) 0) → Cleared w p a u (i + 1)
     clear-more h u long z = ((omega arith, omega arith), (long ∙ s .1 .0, z ∙ ap (λ (m : Machine). withOrderTable m (set (m .order) (p * 64 + i) 0)) (s .1 .1) ∙ ap (λ x. withOrderTable (machine w) x) one-more))
       where
-        done : List ℕ
-        done = replicate (i - a) 0
-
-        at : p * 64 + i ≡ p * 64 + a + length done
-        at = let l : length done ≡ i - a = length-replicate (i - a) 0 in omega arith
-
-        one-more : set (sets (machine w .order) (p * 64 + a) done) (p * 64 + i) 0 ≡ sets (machine w .order) (p * 64 + a) (replicate (i + 1 - a) 0)
+        one-more : set (sets (machine w .order) (p * 64 + a) (replicate (i - a) 0)) (p * 64 + i) 0 ≡ sets (machine w .order) (p * 64 + a) (replicate (i + 1 - a) 0)
         one-more =
-            ap (λ (j : ℕ). set (sets (machine w .order) (p * 64 + a) done) j 0) at
-            ∙ sym (sets-append (machine w .order) (p * 64 + a) done (0 ∷ []))
-            ∙ ap (λ x. sets (machine w .order) (p * 64 + a) x) (replicate-append-replicate (i - a) 1 0 ∙ ap (λ (k : ℕ). replicate k 0) (let e : i - a + 1 ≡ i + 1 - a = omega arith in e))
+            ap (λ (j : ℕ). set (sets (machine w .order) (p * 64 + a) (replicate (i - a) 0)) j 0) (let e : p * 64 + i ≡ p * 64 + a + (i - a) = omega arith in e)
+            ∙ zeros-more (machine w .order) (p * 64 + a) (i - a)
+            ∙ ap (λ (k : ℕ). sets (machine w .order) (p * 64 + a) (replicate k 0)) (let e : i - a + 1 ≡ i + 1 - a = omega arith in e)
 
     pub clear-all : 64 ≤ i → machine v ≡ withOrderTable (machine w) (sets (machine w .order) (p * 64 + a) (replicate (64 - a) 0))
     clear-all h = s .1 .1 ∙ ap (λ (j : ℕ). withOrderTable (machine w) (sets (machine w .order) (p * 64 + a) (replicate (j - a) 0))) (let e : i ≡ 64 = omega arith in e)

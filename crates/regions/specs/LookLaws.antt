@@ -3,7 +3,7 @@ use mathlib.Core.Path.{_≡_, ap, sym, _∙_}
 use mathlib.Core.Bool.{Bool, cond}
 use mathlib.Core.List.{List}
 use Prim.Native.Nat.{ℕ, _+_, _*_}
-use lib.ListN.{getD}
+use lib.ListN.{getD, replicate}
 use Rattle.answers.specs.declared.Refusal.{Refusal}
 use Rattle.model.specs.declared.Region.{Region}
 use Rattle.model.specs.declared.Done.the-variants.{Yes, No}
@@ -40,9 +40,9 @@ module _ (w : List ℕ) (p : ℕ) where
     unfolding covers processRefusals
     covers-answered q c k f b s = ap (λ (x : Bool). cond x covering.Covered covering.Uncovered) k ∙ sym (ap (λ x. x .answer) (granted (stateOf w f b) covering.No _ _ s q))
 
-  pub regions-refused : (r : Refusal) → No r ≡ firstOf (processRefusals (wordsAlone w) p) → OnSound (λ s. regions s p) w (notListed r)
-  unfolding regions processRefusals
-  regions-refused r q f b s = sym (ap (λ x. x .answer) (refused (stateOf w f b) notListed _ _ s r q))
+  pub regions-refused : (r : Refusal) → No r ≡ firstOf (processRefusals (wordsAlone w) p) → (zeros : List ℕ) → zeros ≡ replicate 64 0 → OnSound (λ s. regions s p) w (record { done = No r; count = 0; starts = zeros })
+  unfolding regions processRefusals notListed
+  regions-refused r q zeros z f b s = ap (λ (l : List ℕ). record { done = No r; count = 0; starts = l }) z ∙ sym (ap (λ x. x .answer) (refused (stateOf w f b) notListed _ _ s r q))
 
   pub regions-answered : Yes ≡ firstOf (processRefusals (wordsAlone w) p) → (l : Listed) → l ≡ listing (startsOf (machine w) p (orderOf (machine w) p)) → OnSound (λ s. regions s p) w l
   unfolding regions processRefusals

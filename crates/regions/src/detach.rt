@@ -51,7 +51,7 @@ fn retain(words: &mut [u64], process: usize, slot: usize) -> usize
 }
 
 // Puts 0 at every place of list order from one on.
-fn clear_places(words: &mut [u64], process: usize, from: usize)
+pub fn clear_places(words: &mut [u64], process: usize, from: usize)
     requires { ⌜ length (now words) ≡ wordCount ⌝ }
     requires { ⌜ process < 8 ⌝ }
     requires { ⌜ from ≤ 64 ⌝ }

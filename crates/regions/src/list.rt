@@ -1,15 +1,16 @@
 // The list of a process's attached regions: their starts, in list order.
 ghost use mathlib.Core.Path.{_≡_};
 ghost use Prim.Native.Nat.{_+_, _*_, _<_};
-ghost use lib.ListN.{length, getD};
+ghost use lib.ListN.{length, getD, replicate};
 ghost use Rattle.model.specs.Layout.{wordCount, machine};
 ghost use Rattle.model.specs.Machine.{orderOf, regionAt};
 ghost use Rattle.model.specs.Lookup.{startsOf};
 ghost use Rattle.model.specs.Answers.{listing};
+ghost use Rattle.regions.specs.Starts.{withStarts};
 use crate::slot::region_in;
 use lookup::attached::attached_count;
+use model::Counted;
 use model::Done;
-use model::Listed;
 use model::SLOTS;
 use rows::slots::order_at;
 
@@ -25,22 +26,33 @@ fn start_at(words: &[u64], process: usize, place: usize) -> u64
     region.start.0
 }
 
-// The starts of a process's attached regions.
-pub fn starts(words: &[u64], process: usize) -> Listed
-    requires { ⌜ length (now words) ≡ wordCount ⌝ }
-    requires { ⌜ process < 8 ⌝ }
-    ensures { λ r. ⌜ r ≡ listing (startsOf (machine (now (words .entry))) process (orderOf (machine (now (words .entry))) process)) ⌝ }
+// No starts: zeros alone.
+pub fn put_zeros(starts: &mut [u64])
+    requires { ⌜ length (now starts) ≡ 64 ⌝ }
+    ensures { λ _. ⌜ now (starts .exit) ≡ replicate 64 0 ⌝ }
 {
-    let n = attached_count(words, process);
-    let mut out = [0u64; SLOTS];
     let mut i = 0;
-    while i < n {
-        out[i] = start_at(words, process, i);
+    while i < SLOTS {
+        starts[i] = 0;
         i += 1;
     }
-    Listed {
+}
+
+// The starts of a process's attached regions, put into zeros.
+pub fn put_starts(words: &[u64], starts: &mut [u64], process: usize) -> Counted
+    requires { ⌜ length (now words) ≡ wordCount ⌝ }
+    requires { ⌜ now starts ≡ replicate 64 0 ⌝ }
+    requires { ⌜ process < 8 ⌝ }
+    ensures { λ r. ⌜ withStarts r (now (starts .exit)) ≡ listing (startsOf (machine (now (words .entry))) process (orderOf (machine (now (words .entry))) process)) ⌝ }
+{
+    let n = attached_count(words, process);
+    let mut i = 0;
+    while i < n {
+        starts[i] = start_at(words, process, i);
+        i += 1;
+    }
+    Counted {
         done: Done::Yes,
         count: n as u64,
-        starts: out,
     }
 }

@@ -4,15 +4,17 @@ ghost use lib.ListN.{length};
 ghost use Rattle.model.specs.Layout.{wordCount};
 ghost use Rattle.model.specs.Calls.{region, covers, regions};
 ghost use Rattle.rows.specs.LentMemory.{SoundWords, OnSound};
+ghost use Rattle.regions.specs.Starts.{withStarts};
 use crate::cover::covers;
-use crate::list::starts;
+use crate::list::put_starts;
+use crate::list::put_zeros;
 use address::VirtAddr;
 use lookup::named::Named;
 use lookup::named::process_refusal;
 use lookup::named::region_named;
+use model::Counted;
 use model::Covering;
 use model::Done;
-use model::Listed;
 use model::Placed;
 use model::SLOTS;
 use rows::slots::region_at;
@@ -51,21 +53,22 @@ pub fn covers_core(words: &[u64], process: u64, start: u64, end: u64) -> Coverin
     }
 }
 
-// The starts of a process's regions, in list order.
-pub fn regions_core(words: &[u64], process: u64) -> Listed
+// The starts of a process's regions, in list order, put into lent memory.
+pub fn regions_core(words: &[u64], starts: &mut [u64], process: u64) -> Counted
     requires { ⌜ length (now words) ≡ wordCount ⌝ }
-    ensures { λ r. ⌜ OnSound (λ s. regions s process) (now (words .entry)) r ⌝ }
+    requires { ⌜ length (now starts) ≡ 64 ⌝ }
+    ensures { λ r. ⌜ OnSound (λ s. regions s process) (now (words .entry)) (withStarts r (now (starts .exit))) ⌝ }
 {
+    put_zeros(starts);
     match process_refusal(words, process) {
         Done::No(refusal) => {
-            return Listed {
+            return Counted {
                 done: Done::No(refusal),
                 count: 0,
-                starts: [0u64; SLOTS],
             };
         }
         Done::Yes => {
-            return starts(words, process as usize);
+            return put_starts(words, starts, process as usize);
         }
     }
 }

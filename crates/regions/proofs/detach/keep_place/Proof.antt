@@ -1,5 +1,9 @@
 -- `keep_place` puts what stands at a place, if it is kept, and counts it.
+use mathlib.Core.Path.{ap}
+use mathlib.Core.Bool.{not}
+use borrow.Author.Tests.{eq-eqb, ne-eqb}
 use Rattle.model.specs.Layout.{machine}
+use Rattle.regions.specs.Detached.{other}
 use Rattle.regions.specs.DetachedLaws.{place-leaves, place-stays}
 use borrow.Author.Needs.{needs}
 use Rattle.regions.proofs.detach.keep_place.Statement.{statement}
@@ -18,7 +22,7 @@ same-length : tie.Need-same-length
 same-length c = search needs
 
 returns : tie.Need-returns
-returns c = place-leaves (machine (c .before .before .before .before .args .words .now)) _ (c .before .before .before .before .args .slot) _ (c .before .before .before .before .args .kept) _ (c .before .order-at .ensures) (c .if1 .taken)
+returns c = place-leaves (machine (c .before .before .before .before .args .words .now)) _ (other (c .before .before .before .before .args .slot)) _ (c .before .before .before .before .args .kept) _ (c .before .order-at .ensures) (ap not (eq-eqb _ _ (c .if1 .taken)))
 
 mul-put-order : tie.Need-mul-put-order
 mul-put-order c = search needs
@@ -36,7 +40,7 @@ same-length-2 : tie.Need-same-length-2
 same-length-2 c = search needs
 
 returns-2 : tie.Need-returns-2
-returns-2 c = place-stays (machine (c .before .before .before .before .before .before .before .before .args .words .now)) _ (c .before .before .before .before .before .before .before .before .args .slot) _ (c .before .before .before .before .before .before .before .before .args .kept) _ (c .before .before .before .before .before .order-at .ensures) _ (c .before .before .before .before .if1 .left) (c .before .before .put-order .ensures)
+returns-2 c = place-stays (machine (c .before .before .before .before .before .before .before .before .args .words .now)) _ (other (c .before .before .before .before .before .before .before .before .args .slot)) _ (c .before .before .before .before .before .before .before .before .args .kept) _ (c .before .before .before .before .before .order-at .ensures) _ (ap not (ne-eqb _ _ (c .before .before .before .before .if1 .left))) (c .before .before .put-order .ensures)
 
 pub keep-place-spec : {M : Type 1} → statement M
 keep-place-spec =
