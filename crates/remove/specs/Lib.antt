@@ -10,3 +10,4 @@ pub mod Removed
 pub mod RemovedLaws
 pub mod Cleared
 pub mod ClearedLaws
+pub mod RemoveCallLaws
