@@ -1,0 +1,3 @@
+-- What a new page of a region holds.
+pub mod Fill
+pub mod FillLaws

@@ -1,0 +1,39 @@
+-- `fault_way`: what is read of a sound machine, and which kind the region is.
+use Rattle.fault_way.specs.WayLaws.{words-translate, words-len, fault-shared, fault-private}
+use Rattle.model.specs.Layout.{machine}
+use borrow.Author.Needs.{needs}
+use Rattle.fault_way.proofs.fault_way.Statement.{statement}
+use Rattle.fault_way.proofs.fault_way.Tie as tie
+
+region-in-requires : tie.Need-region-in-requires
+region-in-requires c κs = search needs
+
+translate-requires : tie.Need-translate-requires
+translate-requires c κs = search needs
+
+backing-of-requires : tie.Need-backing-of-requires
+backing-of-requires c κs = let len = words-len _ (c .before .before .before .pre .1 .0) in search needs
+
+shared-way-requires : tie.Need-shared-way-requires
+shared-way-requires c κs = search needs
+
+returns : tie.Need-returns
+returns c = fault-shared (machine (c .before .before .before .before .before .before .before .args .words .now)) (c .before .before .before .before .before .before .before .args .process) (c .before .before .before .before .before .before .before .args .slot) (c .before .before .before .before .before .before .before .args .page .0) (c .before .before .before .before .before .before .before .args .write) _ (c .before .before .before .before .before .region-in .ensures) _ (words-translate _ (c .before .before .before .before .before .before .before .pre .1 .0) _ (c .before .before .before .before .before .before .before .pre .1 .1 .0) _ _ (c .before .before .before .before .translate .ensures)) _ (c .before .before .before .backing-of .ensures) (c .before .if1 .taken) _ (c .shared-way .ensures)
+
+private-way-requires : tie.Need-private-way-requires
+private-way-requires c κs = search needs
+
+returns-2 : tie.Need-returns-2
+returns-2 c = fault-private (machine (c .before .before .before .before .before .before .before .args .words .now)) (c .before .before .before .before .before .before .before .args .process) (c .before .before .before .before .before .before .before .args .slot) (c .before .before .before .before .before .before .before .args .page .0) (c .before .before .before .before .before .before .before .args .write) _ (c .before .before .before .before .before .region-in .ensures) _ (words-translate _ (c .before .before .before .before .before .before .before .pre .1 .0) _ (c .before .before .before .before .before .before .before .pre .1 .1 .0) _ _ (c .before .before .before .before .translate .ensures)) _ (c .before .before .before .backing-of .ensures) (c .before .if1 .left) _ (c .private-way .ensures)
+
+pub fault-way-spec : {M : Type 1} → statement M
+fault-way-spec =
+    tie.close
+    (tie.spec
+    region-in-requires
+    translate-requires
+    backing-of-requires
+    shared-way-requires
+    returns
+    private-way-requires
+    returns-2)

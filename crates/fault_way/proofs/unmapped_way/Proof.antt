@@ -1,0 +1,42 @@
+-- `unmapped_way`: what backs the page decides.
+use Rattle.fault_way.specs.WayLaws.{unmapped-entry, unmapped-range, unmapped-fill}
+use borrow.Author.Needs.{needs}
+use Rattle.fault_way.proofs.unmapped_way.Statement.{statement}
+use Rattle.fault_way.proofs.unmapped_way.Tie as tie
+
+enum-known-backed : tie.Need-enum-known-backed
+enum-known-backed c = search needs
+
+backed-way-requires : tie.Need-backed-way-requires
+backed-way-requires c κs = search needs
+
+enum-known-backed-2 : tie.Need-enum-known-backed-2
+enum-known-backed-2 c = search needs
+
+backed-way-requires-2 : tie.Need-backed-way-requires-2
+backed-way-requires-2 c κs = search needs
+
+enum-told : tie.Need-enum-told
+enum-told c = search needs
+
+returns : tie.Need-returns
+returns c = unmapped-entry (c .before .before .before .before .args .region) (c .before .before .before .before .args .backed) (c .before .before .before .before .args .write) _ _ _ (c .before .before .backed .given .1) _ (c .backed-way .ensures)
+
+returns-2 : tie.Need-returns-2
+returns-2 c = unmapped-range (c .before .before .before .before .args .region) (c .before .before .before .before .args .backed) (c .before .before .before .before .args .write) _ _ (c .before .before .backed2 .given .1) _ (c .backed-way2 .ensures)
+
+returns-3 : tie.Need-returns-3
+returns-3 c = unmapped-fill (c .before .before .args .region) (c .before .before .args .backed) (c .before .before .args .write) (c .enum-told .given .1)
+
+pub unmapped-way-spec : {M : Type 1} → statement M
+unmapped-way-spec =
+    tie.close
+    (tie.spec
+    enum-known-backed
+    backed-way-requires
+    enum-known-backed-2
+    backed-way-requires-2
+    enum-told
+    returns
+    returns-2
+    returns-3)

@@ -1,0 +1,4 @@
+-- Eager populate on lent memory: list order stays, region after region.
+pub mod ListStaysLaws
+pub mod Tour
+pub mod TourLaws

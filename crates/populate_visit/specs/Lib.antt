@@ -1,0 +1,3 @@
+-- Which pages populate visits.
+pub mod PageWalk
+pub mod PageWalkLaws
