@@ -1,0 +1,3 @@
+-- A process's regions cloned one after the other.
+pub mod CloneEach
+pub mod CloneEachLaws
