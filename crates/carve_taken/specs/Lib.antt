@@ -1,0 +1,3 @@
+-- The regions that a range cuts, taken out of list order.
+pub mod TakenOut
+pub mod TakenOutLaws

@@ -1,0 +1,2 @@
+-- The parts of a region that is split.
+pub mod PartsLaws
