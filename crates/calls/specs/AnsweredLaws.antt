@@ -17,7 +17,7 @@ use Rattle.model.specs.SoundTest.{soundb}
 use Rattle.model.specs.Calls.{sound}
 use Rattle.rows.specs.GuardedLaws.{granted}
 use Rattle.lookup.specs.FirstOfLaws.{first-none}
-use Rattle.rows.specs.LentMemory.{stateOf, SoundWords, SoundFrames, OnSound, OnFrames, Does}
+use Rattle.rows.specs.LentMemory.{stateOf, SoundWords, SoundFrames, OnSound, OnFrames, Does, DoesWith}
 use Rattle.soundness.specs.SoundLent.{soundLent}
 use Rattle.calls.specs.Answered.{answerOn, Leaves}
 
@@ -28,6 +28,9 @@ module _ (w f b : List ℕ) (told : soundLent w f b ≡ true) where
 
   pub sound-length : length w ≡ wordCount
   sound-length = eqb-true (length w) wordCount (both .0)
+
+  pub sound-state : soundb (stateOf w f b) ≡ true
+  sound-state = both .1
 
   pub sound-words : SoundWords w
   sound-words = record { frames = f; files = b; sound = both .1 }
@@ -47,10 +50,12 @@ module _ (w f b : List ℕ) (told : soundLent w f b ≡ true) where
     pub looked-at : OnFrames call w f r → r ≡ answerOn refusal call w f b
     looked-at on = answered (on b (both .1))
 
+    -- of a core that reads the files
+    pub done-with : (w' f' : List ℕ) → DoesWith call w f b w' f' r → (r ≡ answerOn refusal call w f b) × Leaves call w f b w' f'
+    done-with w' f' e = (answered (sym (ap (λ x. x .answer) e)), record { machine = λ _. sym (ap (λ x. x .state) e); other = λ n. absurd (n sound-length) })
+
     pub done : (w' f' : List ℕ) → Does call w f w' f' r → (r ≡ answerOn refusal call w f b) × Leaves call w f b w' f'
-    done w' f' does =
-        let e = does b (both .1) in
-        (answered (sym (ap (λ x. x .answer) e)), record { machine = λ _. sym (ap (λ x. x .state) e); other = λ n. absurd (n sound-length) })
+    done w' f' does = done-with w' f' (does b (both .1))
 
 module _ {A : Type 0} (refusal : Refusal → A) (call : State → After A) (refuses : (s : State) → soundb s ≡ false → call s ≡ leaving (refusal BadTable) s) (w f b : List ℕ) (told : soundLent w f b ≡ false) where
   unsound-state : length w ≡ wordCount → soundb (stateOf w f b) ≡ false

@@ -64,3 +64,47 @@ module _ (s : State) (e : soundb s ≡ false) where
   pub store-unsound : (p a byte : ℕ) → calls.store s p a byte ≡ leaving (done.No BadTable) s
   unfolding calls.store
   store-unsound p a byte = unsound s _ _ _ e
+
+  pub remove-unsound : (p a : ℕ) → calls.remove s p a ≡ leaving (done.No BadTable) s
+  unfolding calls.remove
+  remove-unsound p a = unsound s _ _ _ e
+
+  pub clear-unsound : (p : ℕ) → calls.clear s p ≡ leaving (done.No BadTable) s
+  unfolding calls.clear
+  clear-unsound p = unsound s _ _ _ e
+
+  pub carve-unsound : (p a end : ℕ) → calls.carve s p a end ≡ leaving (notListed BadTable) s
+  unfolding calls.carve
+  carve-unsound p a end = unsound s _ _ _ e
+
+  pub fault-unsound : (p a : ℕ) (w : Bool) → calls.fault s p a w ≡ leaving (done.No BadTable) s
+  unfolding calls.fault
+  fault-unsound p a w = unsound s _ _ _ e
+
+  pub populate-unsound : (p a len : ℕ) (w : Bool) → calls.populate s p a len w ≡ leaving (done.No BadTable) s
+  unfolding calls.populate
+  populate-unsound p a len w = unsound s _ _ _ e
+
+  pub eager-unsound : (p : ℕ) → calls.eager s p ≡ leaving (done.No BadTable) s
+  unfolding calls.eager
+  eager-unsound p = unsound s _ _ _ e
+
+  pub clone-region-unsound : (p a q : ℕ) → calls.cloneRegion s p a q ≡ leaving (done.No BadTable) s
+  unfolding calls.cloneRegion
+  clone-region-unsound p a q = unsound s _ _ _ e
+
+  pub clone-unsound : (p q : ℕ) → calls.clone s p q ≡ leaving (done.No BadTable) s
+  unfolding calls.clone
+  clone-unsound p q = unsound s _ _ _ e
+
+  pub protect-unsound : (p a flags : ℕ) → calls.protect s p a flags ≡ leaving (done.No BadTable) s
+  unfolding calls.protect
+  protect-unsound p a flags = unsound s _ _ _ e
+
+  pub pin-unsound : (p a : ℕ) → calls.pin s p a ≡ leaving (done.No BadTable) s
+  unfolding calls.pin
+  pin-unsound p a = unsound s _ _ _ e
+
+  pub unpin-unsound : (p a : ℕ) → calls.unpin s p a ≡ leaving (done.No BadTable) s
+  unfolding calls.unpin
+  unpin-unsound p a = unsound s _ _ _ e

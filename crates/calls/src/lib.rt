@@ -1,18 +1,36 @@
 // The public calls on a machine in lent memory: each takes any words, frames and files, tests them first, and answers by the rules (RULES D1).
+mod any_call;
+mod change;
+mod clones;
 mod creation;
+mod faults;
 mod load_store;
 mod look;
+mod populating;
 mod processes;
+mod range;
 
+pub use any_call::run;
+pub use change::clear;
+pub use change::pin;
+pub use change::protect;
+pub use change::remove;
+pub use change::unpin;
+pub use clones::clone;
+pub use clones::clone_region;
 pub use creation::create_file;
 pub use creation::create_private;
 pub use creation::create_shared;
+pub use faults::fault;
 pub use load_store::load;
 pub use load_store::store;
 pub use look::covers;
 pub use look::region;
 pub use look::regions;
+pub use populating::eager;
+pub use populating::populate;
 pub use process::start::start;
 pub use processes::close;
 pub use processes::open;
 pub use processes::sound;
+pub use range::carve;

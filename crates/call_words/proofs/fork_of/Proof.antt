@@ -1,0 +1,16 @@
+-- `fork_of` meets its contract, by its flag.
+use borrow.Author.Tests.{eq-eqb, ne-eqb}
+use Rattle.call_words.specs.CallOf.{forkOf}
+use Rattle.call_words.proofs.fork_of.Statement.{statement}
+use Rattle.call_words.proofs.fork_of.Tie as tie
+
+returns : tie.Need-returns
+unfolding forkOf
+returns c = rw (eq-eqb _ _ (c .if1 .taken))
+
+returns-2 : tie.Need-returns-2
+unfolding forkOf
+returns-2 c = rw (ne-eqb _ _ (c .if1 .left))
+
+pub fork-of-spec : {M : Type 1} → statement M
+fork-of-spec = tie.close (tie.spec returns returns-2)

@@ -1,0 +1,45 @@
+-- `fault`: the soundness test, then the core.
+use mathlib.Core.Path.{sym, _∙_}
+use borrow.Author.Tests.{not-true, not-false}
+use Rattle.calls.specs.AnsweredLaws.{sound-length, sound-state, refused-whole, done-with}
+use Rattle.calls.specs.UnsoundLaws.{fault-unsound}
+use borrow.Author.Needs.{needs}
+use Rattle.calls.proofs.faults.fault.Statement.{statement}
+use Rattle.calls.proofs.faults.fault.Tie as tie
+
+is-sound-requires : tie.Need-is-sound-requires
+is-sound-requires c κs = search needs
+
+same-length : tie.Need-same-length
+same-length c = search needs
+
+same-length-2 : tie.Need-same-length-2
+same-length-2 c = search needs
+
+returns : tie.Need-returns
+returns c = refused-whole _ _ (λ s e. fault-unsound s e _ _ _) _ _ _ (sym (c .before .is-sound .ensures) ∙ not-true _ (c .if1 .taken))
+
+fault-core-requires : tie.Need-fault-core-requires
+fault-core-requires c κs = let told = sym (c .before .before .before .is-sound .ensures) ∙ not-false _ (c .before .before .if1 .left) in (sound-length _ _ _ told, sound-state _ _ _ told)
+
+same-length-3 : tie.Need-same-length-3
+same-length-3 c = search needs
+
+same-length-4 : tie.Need-same-length-4
+same-length-4 c = search needs
+
+returns-2 : tie.Need-returns-2
+returns-2 c = done-with _ _ _ (sym (c .before .before .before .before .before .before .before .before .is-sound .ensures) ∙ not-false _ (c .before .before .before .before .before .before .before .if1 .left)) _ _ _ _ _ (c .before .before .before .before .fault-core .ensures)
+
+pub fault-spec : {M : Type 1} → statement M
+fault-spec =
+    tie.close
+    (tie.spec
+    is-sound-requires
+    same-length
+    same-length-2
+    returns
+    fault-core-requires
+    same-length-3
+    same-length-4
+    returns-2)
