@@ -1,14 +1,21 @@
 -- Laws of `Out`: what an exported call returns and writes: number and values (RULES E, O1); where `out` is of another length, 1 and nothing written.
 use mathlib.Core.Path.{_≡_, refl, ap, subst, _∙_}
-use mathlib.Core.List.{List, [], _∷_}
-use Prim.Native.Nat.{ℕ}
+use mathlib.Core.List.{List, [], _∷_, _++_, append-nil}
+use Prim.Native.Nat.{ℕ, _-_}
 use native.Mathlib.Omega.{arith}
-use lib.ListN.{length, set}
+use lib.ListN.{length, set, take, drop, drop-of-length-le}
+use lib.Seq.{take-length}
 use Rattle.model.specs.Machine.{State}
 use Rattle.model.specs.declared.Placed.{Placed}
 use Rattle.model.specs.declared.Placed.the-variants as placed
-use Rattle.model.specs.Answers.{After, Reply, ofPlaced}
+use Rattle.model.specs.declared.Answer.the-variants as says
+use Rattle.model.specs.declared.Call.{Call}
+use Rattle.model.specs.declared.Counted.{Counted}
+use Rattle.model.specs.Answers.{After, Reply, ofDone, ofPlaced}
+use Rattle.model.specs.Meant.{meant, reply}
+use Rattle.model.specs.Run.{call}
 use Rattle.calls.specs.Answered.{answerOn, Leaves}
+use Rattle.calls.specs.Ran.{Ran, replyOn}
 use Rattle.machine_c.specs.Out.{Told, LeavesOut}
 
 module _ (reply : Reply) (n r : ℕ) (out out' : List ℕ) where
@@ -46,3 +53,31 @@ module _ {A : Type 0} (call : A → State → After Placed) (w f b : List ℕ) w
   placed-out pl pl' e x n out out' w' f' h a l p q =
       subst (λ (y : A). Told (ofPlaced (answerOn placed.No (call y) w f b)) 1 n out out' × LeavesOut (call y) 1 out w f b w' f') e
       (told-all _ _ _ _ _ h (p ∙ ap (λ (z : Placed). ofPlaced z .number) a) (q ∙ ap (λ (z : Placed). ofPlaced z .values) a), left-out _ _ _ _ _ _ h _ _ l)
+
+-- what stands behind the first word is lent, and comes back
+abbrev pub behind : List ℕ → List ℕ
+behind out = take (length out - 1) (drop 1 out)
+
+abbrev pub withBehind : List ℕ → List ℕ → List ℕ
+withBehind out l = take 1 out ++ (l ++ drop (length out - 1) (drop 1 out))
+
+one-less : (x : ℕ) (l : List ℕ) → length (x ∷ l) - 1 ≡ length l
+one-less x l = omega arith
+
+pub behind-all : (x : ℕ) (l : List ℕ) → behind (x ∷ l) ≡ l
+behind-all x l = ap (λ (n : ℕ). take n l) (one-less x l) ∙ take-length l
+
+pub with-behind : (x : ℕ) (l l' : List ℕ) (v : ℕ) → set (withBehind (x ∷ l) l') 0 v ≡ v ∷ l'
+with-behind x l l' v = ap (λ (t : List ℕ). v ∷ t) (ap (λ (n : ℕ). l' ++ drop n l) (one-less x l) ∙ ap (λ (t : List ℕ). l' ++ t) (drop-of-length-le l {i = length l} (omega arith)) ∙ append-nil l')
+
+-- a list, whose starts stand behind the count
+pub listed-out : (c : Call) (w f b w' f' out starts : List ℕ) (r : Counted) (n : ℕ) (out' : List ℕ) → length out ≡ 65
+    → Ran c w f b (behind out) w' f' starts (says.Counted r) → n ≡ ofDone (r .done) .number → out' ≡ set (withBehind out starts) 0 (r .count)
+    → Told (replyOn c w f b) 65 n out out' × LeavesOut (λ s. call (meant c) s) 65 out w f b w' f'
+unfolding reply
+listed-out c w f b w' f' [] starts r n out' h ran e q = let z : _≡_ {A = ℕ} 0 65 = h in absurd (omega arith)
+listed-out c w f b w' f' (x ∷ l) starts r n out' h ran e q =
+    let long : length l ≡ 64 = omega (arith, h) in
+    let sized : length (behind (x ∷ l)) ≡ 64 = ap (λ (t : List ℕ). length t) (behind-all x l) ∙ long in
+    let is = ran .answer sized in
+    (told-all _ _ _ _ _ h (e ∙ ap (λ (y : Reply). y .number) is) (q ∙ (with-behind x l starts (r .count) ∙ ap (λ (y : Reply). y .values) is)), left-out _ _ _ _ _ _ h _ _ (ran .leaves sized))

@@ -5,19 +5,24 @@ ghost use mathlib.Core.Path.{_≡_};
 ghost use mathlib.Core.Bool.{not};
 ghost use lib.Dec.{eqb};
 ghost use Rattle.address.specs.declared.VirtAddr.{VirtAddr};
+ghost use Rattle.model.specs.declared.Call.the-variants as code;
 ghost use Rattle.model.specs.declared.Done.the-variants as done;
 ghost use Rattle.model.specs.declared.Opened.the-variants as opened;
 ghost use Rattle.model.specs.declared.Placed.the-variants as placed;
 ghost use Rattle.model.specs.declared.Covering.the-variants as covering;
 ghost use Rattle.model.specs.declared.Loaded.the-variants as loaded;
-ghost use Rattle.model.specs.Answers.{ofDone, ofOpened, ofPlaced, ofCovering, ofLoaded, ofListed, notListed};
+ghost use Rattle.model.specs.Answers.{ofDone, ofOpened, ofPlaced, ofCovering, ofLoaded};
 ghost use Rattle.model.specs.Create.{isCopy, isEager};
 ghost use Rattle.model.specs.Calls as model;
 ghost use Rattle.soundness.specs.SoundLent.{soundLent};
 ghost use Rattle.calls.specs.Answered.{answerOn, Leaves};
+ghost use Rattle.calls.specs.Ran.{replyOn};
 ghost use Rattle.machine_c.specs.Numbers.{soundNumber, placeOf};
 ghost use Rattle.machine_c.specs.Out.{Told, LeavesOut, StartTold};
 
+mod call;
+mod changes;
+mod fills;
 mod told;
 
 use address::VirtAddr;
@@ -25,9 +30,9 @@ use model::ForkPolicy;
 use model::Place;
 use model::Population;
 use soundness::is_sound;
+use told::tell_counted;
 use told::tell_covering;
 use told::tell_done;
-use told::tell_listed;
 use told::tell_loaded;
 use told::tell_opened;
 use told::tell_placed;
@@ -112,12 +117,13 @@ pub extern "C" fn machine_regions(
     process: u64,
     out: &mut [u64],
 ) -> u64
-    ensures { λ r. ⌜ Told (ofListed (answerOn notListed (λ s. model.regions s process) (now (words .entry)) (now (frames .entry)) (now (files .entry)))) 65 r (now (out .entry)) (now (out .exit)) ⌝ }
+    ensures { λ r. ⌜ Told (replyOn (code.Regions process) (now (words .entry)) (now (frames .entry)) (now (files .entry))) 65 r (now (out .entry)) (now (out .exit)) ⌝ }
 {
     if out.len() != 65 {
         return 1;
     }
-    tell_listed(calls::regions(words, frames, files, process), out)
+    let counted = calls::regions(words, frames, files, &mut out[1..], process);
+    tell_counted(counted, out)
 }
 
 // Whether a range is covered: out[0] is 1 or 0.

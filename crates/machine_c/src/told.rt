@@ -1,10 +1,14 @@
 // Answers as numbers and values (RULES E, O1).
 ghost use mathlib.Core.Path.{_≡_};
-ghost use lib.ListN.{length};
-ghost use Rattle.model.specs.Answers.{ofDone, ofOpened, ofPlaced, ofCovering, ofLoaded, ofListed};
+ghost use mathlib.Core.List.{[]};
+ghost use lib.ListN.{length, set};
+ghost use Rattle.model.specs.Answers.{ofDone, ofOpened, ofPlaced, ofCovering, ofLoaded};
+ghost use Rattle.model.specs.Meant.{reply};
+ghost use Rattle.machine_c.specs.Called.{firstValue};
+use model::Answer;
+use model::Counted;
 use model::Covering;
 use model::Done;
-use model::Listed;
 use model::Loaded;
 use model::Opened;
 use model::Placed;
@@ -90,17 +94,32 @@ pub fn tell_loaded(answer: Loaded, out: &mut [u64]) -> u64
     }
 }
 
-// The count, then the 64 starts.
-pub fn tell_listed(answer: Listed, out: &mut [u64]) -> u64
+// The count of starts that stand behind it.
+pub fn tell_counted(answer: Counted, out: &mut [u64]) -> u64
     requires { ⌜ length (now out) ≡ 65 ⌝ }
-    ensures { λ r. ⌜ r ≡ ofListed answer .number ⌝ }
-    ensures { λ _. ⌜ now (out .exit) ≡ ofListed answer .values ⌝ }
+    ensures { λ r. ⌜ r ≡ ofDone (answer .done) .number ⌝ }
+    ensures { λ _. ⌜ now (out .exit) ≡ set (now (out .entry)) 0 (answer .count) ⌝ }
 {
     out[0] = answer.count;
-    let mut i = 0;
-    while i < 64 {
-        out[i + 1] = answer.starts[i];
-        i += 1;
+    let done = answer.done;
+    tell_done(done)
+}
+
+// The answer of any call: its first value, or 0, in front of what stands there.
+pub fn tell_answer(answer: Answer, out: &mut [u64]) -> u64
+    requires { ⌜ length (now out) ≡ 65 ⌝ }
+    ensures { λ r. ⌜ r ≡ reply answer [] .number ⌝ }
+    ensures { λ _. ⌜ now (out .exit) ≡ set (now (out .entry)) 0 (firstValue answer) ⌝ }
+{
+    match answer {
+        Answer::Done(done) => {
+            out[0] = 0;
+            return tell_done(done);
+        }
+        Answer::Opened(opened) => return tell_opened(opened, &mut out[..1]),
+        Answer::Placed(placed) => return tell_placed(placed, &mut out[..1]),
+        Answer::Covering(covering) => return tell_covering(covering, &mut out[..1]),
+        Answer::Loaded(loaded) => return tell_loaded(loaded, &mut out[..1]),
+        Answer::Counted(counted) => return tell_counted(counted, out),
     }
-    tell_done(answer.done)
 }

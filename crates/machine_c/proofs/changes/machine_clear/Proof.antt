@@ -1,0 +1,21 @@
+-- `machine_clear`: the call's answer as a number.
+use mathlib.Core.Path.{ap, _∙_}
+use Rattle.model.specs.Answers.{ofDone}
+use borrow.Author.Needs.{needs}
+use Rattle.machine_c.proofs.changes.machine_clear.Statement.{statement}
+use Rattle.machine_c.proofs.changes.machine_clear.Tie as tie
+
+clear-requires : tie.Need-clear-requires
+clear-requires c κs = search needs
+
+tell-done-requires : tie.Need-tell-done-requires
+tell-done-requires c κs = search needs
+
+same-length : tie.Need-same-length
+same-length c = search needs
+
+returns : tie.Need-returns
+returns c = (c .tell-done .ensures ∙ ap (λ x. ofDone x .number) (c .before .before .before .clear .ensures .0), c .before .before .before .clear .ensures .1)
+
+pub machine-clear-spec : {M : Type 1} → statement M
+machine-clear-spec = tie.close (tie.spec clear-requires tell-done-requires same-length returns)
