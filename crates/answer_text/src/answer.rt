@@ -8,7 +8,8 @@ use text::put_decimal;
 use text::put_hex_word;
 use text::put_row;
 
-// What a call answers, lists and the machine's state aside. A number is an address or a length, in hexadecimal, or a count.
+// What a call answers, the machine's state aside. A number is an address or a length, in hexadecimal, or a count. What is listed stands behind
+// a list's own answer.
 pub enum Answer {
     Done,
     Start(u64, u64),
@@ -17,6 +18,7 @@ pub enum Answer {
     Parts(u64, u64, u64, u64),
     Hex(u64),
     Count(u64),
+    List(u64),
     Refused(Refusal),
 }
 
@@ -48,6 +50,7 @@ fn row_of(answer: Answer) -> Row {
         Answer::Parts(a, b, c, d) => row(4, a, b, c, d),
         Answer::Hex(n) => row(5, n, 0, 0, 0),
         Answer::Count(n) => row(6, n, 0, 0, 0),
+        Answer::List(count) => row(6, count, 0, 0, 0),
         Answer::Refused(why) => row(7, why.number(), why.number(), 0, 0),
     }
 }

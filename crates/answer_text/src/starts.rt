@@ -1,29 +1,25 @@
-// A list of regions' starts as text: the answer of `regions`.
+// Answers with lists of regions' starts, as text.
+ghost use mathlib.Core.Path.{_≡_};
 ghost use Prim.Native.Nat.{_+_, _≤_};
 ghost use lib.ListN.{length};
 use crate::answer::Answer;
 use crate::answer::put_answer;
 use crate::answer::put_count;
-use model::Done;
-use model::Listed;
 use text::put;
 use text::put_hex_word;
 
-// Puts the answer of a list of regions.
-pub fn put_starts(out: &mut [u8], at: usize, listed: Listed) -> usize
+// Puts an answer, with the starts that it lists.
+pub fn put_listed(out: &mut [u8], at: usize, answer: Answer, starts: &[u64]) -> usize
     requires { ⌜ at + 4096 ≤ length (now out) ⌝ }
+    requires { ⌜ length (now starts) ≡ 64 ⌝ }
     ensures { λ r. ⌜ r ≤ at + 4096 ⌝ }
 {
-    let done = listed.done;
-    let starts = listed.starts;
-    match done {
-        Done::No(why) => put_answer(out, at, Answer::Refused(why)),
-        Done::Yes => {
-            let next = put_count(out, at, listed.count);
-            let next = put_hexes(out, next, starts, at_most_64(listed.count));
-            put(out, next, b"\n")
-        }
-    }
+    let Answer::List(count) = answer else {
+        return put_answer(out, at, answer);
+    };
+    let next = put_count(out, at, count);
+    let next = put_hexes(out, next, starts, at_most_64(count));
+    put(out, next, b"\n")
 }
 
 fn at_most_64(n: u64) -> usize
@@ -36,8 +32,9 @@ fn at_most_64(n: u64) -> usize
 }
 
 // Puts the first numbers of some, with a blank before each.
-fn put_hexes(out: &mut [u8], at: usize, numbers: [u64; 64], count: usize) -> usize
+fn put_hexes(out: &mut [u8], at: usize, numbers: &[u64], count: usize) -> usize
     requires { ⌜ count ≤ 64 ⌝ }
+    requires { ⌜ length (now numbers) ≡ 64 ⌝ }
     requires { ⌜ at + 1216 ≤ length (now out) ⌝ }
     ensures { λ r. ⌜ r ≤ at + 1216 ⌝ }
 {

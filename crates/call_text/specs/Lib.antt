@@ -1,13 +1,12 @@
--- The definitions of a script's calls, from the whole line to its words, and their laws.
+-- What a line of a script asks for, from the whole line to its words, and the laws about it.
 pub mod Parse
-pub mod Plain
-pub mod FileLine
-pub mod CreateLine
+pub mod Values
 pub mod Operand
-pub mod Choice
-pub mod ChoiceLaws
-pub mod CreateLineLaws
-pub mod FileLineLaws
-pub mod Examples
+pub mod WordList
+pub mod Faults
+pub mod WordListLaws
+pub mod DigitsLaws
 pub mod OperandLaws
+pub mod ValuesLaws
 pub mod ParseLaws
+pub mod Examples

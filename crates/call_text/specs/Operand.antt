@@ -1,78 +1,90 @@
--- The words after a call's name: numbers, one of two words, and the line's end.
-use mathlib.Core.Bool.{cond}
+-- The operands of a call: what a word of the line says, by the operand's letter.
+--
+--   S START   Z SIZE   L LEN   A AT   P P   D ADDR   E END   N FRAMES   F FLAGS   f FILE   o OFFSET   l LENGTH   Q Q   B BYTE
+--   C copy or cow   T thread or -   W r or w   R readable or unreadable   K a kind of region   @ START or any   H HEXBYTES
+--   0 and 1: these values, and no word
+use mathlib.Core.Bool.{Bool, _&&_, cond}
 use mathlib.Core.List.{List}
-use Prim.Native.Nat.{ℕ}
+use Prim.Native.Char.{Char, code}
+use Prim.Native.Nat.{ℕ, _%_}
+use lib.Dec.{eqb, ltb}
+use lib.ListN.{length}
 use Rattle.text.specs.declared.number.Number.{Number}
 use Rattle.text.specs.declared.number.Number.the-variants as number
 use Rattle.text.specs.declared.words.Word.{Word}
-use Rattle.text.specs.Numeral.{numberIn}
+use Rattle.text.specs.Numeral.{digitsb, numberIn}
 use Rattle.text.specs.LineWords.{wordAt}
-use Rattle.call_text.specs.declared.call.Call.{Call}
-use Rattle.call_text.specs.declared.call.Call.the-variants as call
-use Rattle.call_text.specs.declared.call.Either.{Either}
-use Rattle.call_text.specs.declared.call.Fault.{Fault}
-use Rattle.call_text.specs.declared.call.Fault.the-variants as fault
-use Rattle.call_text.specs.declared.call.Operand.{Operand}
-use Rattle.call_text.specs.declared.call.Operand.the-variants as operand
-use Rattle.call_text.specs.declared.choice.Choice.{Choice}
-use Rattle.call_text.specs.declared.choice.Choice.the-variants as choice
+use Rattle.call_text.specs.declared.asked.Why.{Why}
+use Rattle.call_text.specs.declared.asked.Why.the-variants as why
 use Rattle.call_text.specs.declared.operand.Read.{Read}
-use Rattle.call_text.specs.declared.operand.Read.the-variants as read
-use Rattle.call_text.specs.declared.operand.Values.{Values}
-use Rattle.call_text.specs.declared.operand.Values.the-variants as values
-use Rattle.call_text.specs.Choice.{textOf, none, choiceAt}
+use Rattle.call_text.specs.declared.operand.Read.the-variants.{One, Two, Bad}
+use Rattle.call_text.specs.Faults.{faultOf}
+use Rattle.call_text.specs.WordList.{codes, textOf, none, placeIn}
 
--- ---- a number
+abbrev pub wrong : Why → ℕ → Word → Read
+wrong because letter w = Bad (faultOf because letter w)
 
-abbrev pub numbered : Operand → Word → Number → Read
-numbered what w (number.Is v) = read.Value v (w .to)
-numbered what w number.TooLarge = read.Bad (fault.TooLarge what w)
-numbered what w number.NoNumber = read.Bad (fault.NoNumber what w)
+abbrev pub is : ℕ → Char → Bool
+is letter c = eqb letter (code c)
 
--- the number that is the first word from `at` on, and the place after it
-unfoldable pub readAt : List ℕ → ℕ → Operand → Read
-readAt s at what =
-    cond (none (wordAt s at)) (read.Bad (fault.Missing what)) (numbered what (wordAt s at) (numberIn (textOf s (wordAt s at))))
+-- ---- what a word says, w, whose text is t
 
--- what follows from a number and the place after it; a fault ends the line
-unfoldable pub withRead : {A : Type 0} → (Fault → A) → Read → (ℕ → ℕ → A) → A
-withRead bad (read.Value v next) f = f v next
-withRead bad (read.Bad why) f = bad why
+-- a number: a start has 1 before it, and a byte is not above 255
+unfoldable pub valued : ℕ → Word → ℕ → Read
+valued letter w v =
+    cond (is letter "@") (Two 1 v (w .to))
+    (cond (ltb v 256) (One v (w .to))
+    (cond (is letter "B") (wrong why.NoByte letter w)
+    (One v (w .to))))
 
--- ---- up to three numbers
+abbrev pub numbered : ℕ → Word → Number → Read
+numbered letter w (number.Is v) = valued letter w v
+numbered letter w number.TooLarge = wrong why.TooLarge letter w
+numbered letter w number.NoNumber = wrong why.NoNumber letter w
 
-unfoldable pub withValues : Values → (ℕ → ℕ → ℕ → ℕ → Call) → Call
-withValues (values.Are x y z next) f = f x y z next
-withValues (values.Bad why) f = call.Bad why
+unfoldable pub numberSays : ℕ → Word → List ℕ → Read
+numberSays letter w t = numbered letter w (numberIn t)
 
--- a number before up to two others
-unfoldable pub before : ℕ → Values → Values
-before x (values.Are y z _ next) = values.Are x y z next
-before x (values.Bad why) = values.Bad why
+-- one of the first `count` words of a list, by its place
+unfoldable pub oneOf : ℕ → Word → List ℕ → List ℕ → ℕ → Read
+oneOf letter w t list count = cond (ltb (placeIn list count t) count) (One (placeIn list count t) (w .to)) (wrong why.Neither letter w)
 
-unfoldable pub oneAt : List ℕ → ℕ → Operand → Values
-oneAt s at a = withRead values.Bad (readAt s at a) (λ x next. values.Are x 0 0 next)
+-- where a region is to start: 0 for `any`, or 1 and the start
+unfoldable pub spotSays : Word → List ℕ → Read
+spotSays w t = cond (eqb (placeIn (codes "any") 1 t) 0) (Two 0 0 (w .to)) (numberSays (code "@") w t)
 
-unfoldable pub twoAt : List ℕ → ℕ → Operand → Operand → Values
-twoAt s at a b = withRead values.Bad (readAt s at a) (λ x next. before x (oneAt s next b))
+-- two hexadecimal digits a byte, in either case
+unfoldable pub bytesb : List ℕ → Bool
+bytesb s = eqb (length s % 2) 0 && digitsb 16 s
 
-unfoldable pub threeAt : List ℕ → ℕ → Operand → Operand → Operand → Values
-threeAt s at a b c = withRead values.Bad (readAt s at a) (λ x next. before x (twoAt s next b c))
+-- bytes, as the place of their digits
+abbrev pub digitsIn : Word → Read
+digitsIn w = Two (w .from) (w .to) (w .to)
 
--- ---- one of a few words
+unfoldable pub digitsSay : Word → List ℕ → Read
+digitsSay w t = cond (bytesb t) (digitsIn w) (wrong why.NoBytes (code "H") w)
 
-unfoldable pub withChoice : {A : Type 0} → A → (Word → A) → Choice → (ℕ → ℕ → A) → A
-withChoice missing other (choice.Is place next) f = f place next
-withChoice missing other choice.Missing f = missing
-withChoice missing other (choice.Other w) f = other w
+-- flags are 1 for copy, thread, w and readable
+unfoldable pub wordSays : ℕ → Word → List ℕ → Read
+wordSays letter w t =
+    cond (is letter "C") (oneOf letter w t (codes "cow copy") 2)
+    (cond (is letter "T") (oneOf letter w t (codes "- thread") 2)
+    (cond (is letter "W") (oneOf letter w t (codes "r w") 2)
+    (cond (is letter "R") (oneOf letter w t (codes "unreadable readable") 2)
+    (cond (is letter "K") (oneOf letter w t (codes "lazy eager file shared") 4)
+    (cond (is letter "@") (spotSays w t)
+    (cond (is letter "H") (digitsSay w t)
+    (numberSays letter w t)))))))
 
--- which of two words is the first from `at` on: 0 for the first of them, 1 for the other
-unfoldable pub eitherAt : List ℕ → ℕ → List ℕ → Either → Read
-eitherAt s at pair which =
-    withChoice (read.Bad (fault.Missing (operand.Either which))) (λ w. read.Bad (fault.Neither which w)) (choiceAt s at pair 2) (λ place next. read.Value place next)
+-- ---- the operand of a letter, from `at` on
 
--- ---- the line's end
+-- an empty file has no bytes; all else must be there
+abbrev pub missing : ℕ → Word → Read
+missing letter w = cond (is letter "H") (digitsIn w) (wrong why.Missing letter w)
 
--- the call, if no word is left in the line
-unfoldable pub endedAt : List ℕ → ℕ → Call → Call
-endedAt s at c = cond (none (wordAt s at)) c (call.Bad (fault.TooManyWords (wordAt s at)))
+unfoldable pub operandAt : List ℕ → ℕ → ℕ → Read
+operandAt s at letter =
+    cond (is letter "0") (One 0 at)
+    (cond (is letter "1") (One 1 at)
+    (cond (none (wordAt s at)) (missing letter (wordAt s at))
+    (wordSays letter (wordAt s at) (textOf s (wordAt s at)))))

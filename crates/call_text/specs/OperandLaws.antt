@@ -1,95 +1,106 @@
--- The ways through reading a call's words: each arm of a match is the definition's, once the value matched on is known.
-use mathlib.Core.Path.{_≡_}
-use mathlib.Core.Bool.{cond}
+-- The ways through reading an operand.
+use mathlib.Core.Path.{_≡_, sym, ap, _∙_}
+use mathlib.Core.Bool.{Bool, true, false}
 use mathlib.Core.List.{List}
 use Prim.Native.Nat.{ℕ, _≤_, _<_}
-use lib.Dec.{ltb}
 use borrow.Author.Tests.{eq-eqb, ne-eqb, lt-ltb, le-ltb}
 use Rattle.text.specs.declared.number.Number.{Number}
 use Rattle.text.specs.declared.words.Word.{Word}
 use Rattle.text.specs.Numeral.{numberIn}
 use Rattle.text.specs.LineWords.{wordAt}
-use Rattle.call_text.specs.declared.call.Call.{Call}
-use Rattle.call_text.specs.declared.call.Call.the-variants as call
-use Rattle.call_text.specs.declared.call.Fault.{Fault}
-use Rattle.call_text.specs.declared.call.Fault.the-variants as fault
-use Rattle.call_text.specs.declared.call.Operand.{Operand}
-use Rattle.call_text.specs.declared.choice.Choice.{Choice}
-use Rattle.call_text.specs.declared.choice.Choice.the-variants as choice
+use Rattle.call_text.specs.declared.asked.Why.the-variants as why
 use Rattle.call_text.specs.declared.operand.Read.{Read}
-use Rattle.call_text.specs.declared.operand.Read.the-variants as read
-use Rattle.call_text.specs.declared.operand.Values.{Values}
-use Rattle.call_text.specs.declared.operand.Values.the-variants as values
-use Rattle.call_text.specs.Choice.{textOf, placeIn, chosen, choiceAt}
-use Rattle.call_text.specs.Operand.{numbered, readAt, withRead, withValues, withChoice, endedAt}
+use Rattle.call_text.specs.declared.operand.Read.the-variants.{One, Two}
+use Rattle.call_text.specs.Operand.{wrong, valued, numbered, numberSays, oneOf, spotSays, bytesb, digitsIn, digitsSay, wordSays, operandAt}
+use Rattle.call_text.specs.WordList.{codes, textOf, placeIn}
 
--- ---- a test
+-- ---- what a word says
 
-pub if-less : {A : Type 0} (v b : ℕ) (k x y : A) → v < b → k ≡ x → k ≡ cond (ltb v b) x y
-if-less v b k x y h e = rw (lt-ltb v b h) e
+module _ (letter : ℕ) (w : Word) (v : ℕ) where
+  pub valued-start : letter ≡ 64 → Two 1 v (w .to) ≡ valued letter w v
+  unfolding valued
+  valued-start e = rw e
 
-pub if-not-less : {A : Type 0} (v b : ℕ) (k x y : A) → b ≤ v → k ≡ y → k ≡ cond (ltb v b) x y
-if-not-less v b k x y h e = rw (le-ltb v b h) e
+  module _ (other : letter ≡ 64 → ⊥) where
+    pub valued-small : v < 256 → One v (w .to) ≡ valued letter w v
+    unfolding valued
+    valued-small h = rw (ne-eqb letter 64 other, lt-ltb v 256 h)
 
--- ---- a match on what was read: r is the value, q the definition of it
+    module _ (large : 256 ≤ v) (r : Read) where
+      pub valued-byte : letter ≡ 66 → r ≡ wrong why.NoByte letter w → r ≡ valued letter w v
+      unfolding valued
+      valued-byte e p = p ∙ rw (ne-eqb letter 64 other, le-ltb v 256 large, eq-eqb letter 66 e)
 
-module _ {A : Type 0} (bad : Fault → A) {q r : Read} (f : ℕ → ℕ → A) (is : r ≡ q) where
-  pub of-value : {v n : ℕ} {k : A} → r ≡ read.Value v n → k ≡ f v n → k ≡ withRead bad q f
-  unfolding withRead
-  of-value e h = rw (← is, e) h
+      pub valued-large : (letter ≡ 66 → ⊥) → r ≡ One v (w .to) → r ≡ valued letter w v
+      unfolding valued
+      valued-large h p = p ∙ rw (ne-eqb letter 64 other, le-ltb v 256 large, ne-eqb letter 66 h)
 
-  pub of-bad : {why : Fault} → r ≡ read.Bad why → bad why ≡ withRead bad q f
-  unfolding withRead
-  of-bad e = rw (← is, e)
+pub number-says : (letter : ℕ) (w : Word) (t : List ℕ) (n k : Number) (r : Read) → n ≡ numberIn t → n ≡ k → r ≡ numbered letter w k → r ≡ numberSays letter w t
+unfolding numberSays
+number-says letter w t n k r e p q = q ∙ ap (numbered letter w) (sym p ∙ e)
 
-module _ {q r : Values} (f : ℕ → ℕ → ℕ → ℕ → Call) (is : r ≡ q) where
-  pub of-values : {x y z n : ℕ} {k : Call} → r ≡ values.Are x y z n → k ≡ f x y z n → k ≡ withValues q f
-  unfolding withValues
-  of-values e h = rw (← is, e) h
+module _ (letter : ℕ) (w : Word) (t list : List ℕ) (count n : ℕ) (is : n ≡ placeIn list count t) where
+  pub one-is : n < count → One n (w .to) ≡ oneOf letter w t list count
+  unfolding oneOf
+  one-is h = rw (← is, lt-ltb n count h)
 
-  pub of-bad-values : {why : Fault} → r ≡ values.Bad why → call.Bad why ≡ withValues q f
-  unfolding withValues
-  of-bad-values e = rw (← is, e)
+  pub one-none : count ≤ n → (r : Read) → r ≡ wrong why.Neither letter w → r ≡ oneOf letter w t list count
+  unfolding oneOf
+  one-none h r p = p ∙ rw (← is, le-ltb n count h)
 
-module _ {A : Type 0} (missing : A) (other : Word → A) {q r : Choice} (f : ℕ → ℕ → A) (is : r ≡ q) where
-  pub of-choice : {v n : ℕ} {k : A} → r ≡ choice.Is v n → k ≡ f v n → k ≡ withChoice missing other q f
-  unfolding withChoice
-  of-choice e h = rw (← is, e) h
+module _ (w : Word) (t : List ℕ) (n : ℕ) (is : n ≡ placeIn (codes "any") 1 t) where
+  pub spot-any : n ≡ 0 → Two 0 0 (w .to) ≡ spotSays w t
+  unfolding spotSays
+  spot-any e = rw (← is, eq-eqb n 0 e)
 
-  pub of-missing : r ≡ choice.Missing → missing ≡ withChoice missing other q f
-  unfolding withChoice
-  of-missing e = rw (← is, e)
+  pub spot-start : (n ≡ 0 → ⊥) → (r : Read) → r ≡ numberSays 64 w t → r ≡ spotSays w t
+  unfolding spotSays
+  spot-start h r p = p ∙ rw (← is, ne-eqb n 0 h)
 
-  pub of-other : {w : Word} {k : A} → r ≡ choice.Other w → k ≡ other w → k ≡ withChoice missing other q f
-  unfolding withChoice
-  of-other e h = rw (← is, e) h
+module _ (w : Word) (t : List ℕ) (b : Bool) (is : b ≡ bytesb t) where
+  pub digits-are : b ≡ true → digitsIn w ≡ digitsSay w t
+  unfolding digitsSay
+  digits-are e = rw (← is, e)
 
--- ---- the next word, w
+  pub digits-not : b ≡ false → (r : Read) → r ≡ wrong why.NoBytes 72 w → r ≡ digitsSay w t
+  unfolding digitsSay
+  digits-not e r p = p ∙ rw (← is, e)
 
-module _ (s : List ℕ) (at : ℕ) (w : Word) (is : w ≡ wordAt s at) where
-  module _ (what : Operand) where
-    pub read-none : w .from ≡ w .to → read.Bad (fault.Missing what) ≡ readAt s at what
-    unfolding readAt
-    read-none e = rw (← is, eq-eqb (w .from) (w .to) e)
+-- ---- by the letter
 
-    pub read-word : (w .from ≡ w .to → ⊥) → (n : Number) {r : Read} → n ≡ numberIn (textOf s w) → r ≡ numbered what w n → r ≡ readAt s at what
-    unfolding readAt
-    read-word h n p e = rw (← is, ne-eqb (w .from) (w .to) h, ← p) e
+pub says-as : (w : Word) (t : List ℕ) (letter key : ℕ) (r : Read) → letter ≡ key → r ≡ wordSays key w t → r ≡ wordSays letter w t
+says-as w t letter key r e p = p ∙ ap (λ (x : ℕ). wordSays x w t) (sym e)
 
-  module _ (list : List ℕ) (count : ℕ) where
-    pub choice-none : w .from ≡ w .to → choice.Missing ≡ choiceAt s at list count
-    unfolding choiceAt
-    choice-none e = rw (← is, eq-eqb (w .from) (w .to) e)
+-- none of C T W R K @ H
+abbrev pub Plain : ℕ → Type 0
+Plain n =
+    ((((((Unit {0} × (n ≡ 67 → ⊥)) × (n ≡ 84 → ⊥)) × (n ≡ 87 → ⊥)) × (n ≡ 82 → ⊥)) × (n ≡ 75 → ⊥)) × (n ≡ 64 → ⊥)) × (n ≡ 72 → ⊥)
 
-    pub choice-word : (w .from ≡ w .to → ⊥) → (n : ℕ) (k : Choice) → n ≡ placeIn list count (textOf s w) → k ≡ chosen count w n → k ≡ choiceAt s at list count
-    unfolding choiceAt
-    choice-word h n k p e = rw (← is, ne-eqb (w .from) (w .to) h, ← p) e
+pub says-number : (w : Word) (t : List ℕ) (letter : ℕ) (r : Read) → Plain letter → r ≡ numberSays letter w t → r ≡ wordSays letter w t
+unfolding wordSays
+says-number w t letter r m p =
+    p
+    ∙ rw (ne-eqb letter 67 (m .0 .0 .0 .0 .0 .0 .1), ne-eqb letter 84 (m .0 .0 .0 .0 .0 .1), ne-eqb letter 87 (m .0 .0 .0 .0 .1), ne-eqb letter 82 (m .0 .0 .0 .1), ne-eqb letter 75 (m .0 .0 .1), ne-eqb letter 64 (m .0 .1), ne-eqb letter 72 (m .1))
 
-  module _ (c : Call) where
-    pub ends : w .from ≡ w .to → c ≡ endedAt s at c
-    unfolding endedAt
-    ends e = rw (← is, eq-eqb (w .from) (w .to) e)
+module _ (s : List ℕ) (at letter : ℕ) where
+  pub zero-is : letter ≡ 48 → One 0 at ≡ operandAt s at letter
+  unfolding operandAt
+  zero-is e = rw e
 
-    pub ends-not : (w .from ≡ w .to → ⊥) → call.Bad (fault.TooManyWords w) ≡ endedAt s at c
-    unfolding endedAt
-    ends-not h = rw (← is, ne-eqb (w .from) (w .to) h)
+  pub one-value : letter ≡ 49 → One 1 at ≡ operandAt s at letter
+  unfolding operandAt
+  one-value e = rw e
+
+  module _ (not-zero : letter ≡ 48 → ⊥) (not-one : letter ≡ 49 → ⊥) (w : Word) (is : w ≡ wordAt s at) where
+    pub word-there : (w .from ≡ w .to → ⊥) → (r : Read) → r ≡ wordSays letter w (textOf s w) → r ≡ operandAt s at letter
+    unfolding operandAt
+    word-there h r p = p ∙ rw (ne-eqb letter 48 not-zero, ne-eqb letter 49 not-one, ← is, ne-eqb (w .from) (w .to) h)
+
+    module _ (none : w .from ≡ w .to) where
+      pub no-digits : letter ≡ 72 → digitsIn w ≡ operandAt s at letter
+      unfolding operandAt
+      no-digits e = rw (ne-eqb letter 48 not-zero, ne-eqb letter 49 not-one, ← is, eq-eqb (w .from) (w .to) none, eq-eqb letter 72 e)
+
+      pub no-word : (letter ≡ 72 → ⊥) → (r : Read) → r ≡ wrong why.Missing letter w → r ≡ operandAt s at letter
+      unfolding operandAt
+      no-word h r p = p ∙ rw (ne-eqb letter 48 not-zero, ne-eqb letter 49 not-one, ← is, eq-eqb (w .from) (w .to) none, ne-eqb letter 72 h)

@@ -1,17 +1,14 @@
-// The calls of a script out of its lines: the lone manager's and the machine's.
-mod call;
-mod choice;
-mod creating;
-mod file;
+// What a line of a script asks for: of the lone manager, or of the machine.
+mod asked;
+mod digits;
 mod operand;
 mod parse;
-mod plain;
+mod values;
+mod word_list;
 
-pub use call::Call;
-pub use call::Either;
-pub use call::Fault;
-pub use call::Marks;
-pub use call::Operand;
-pub use call::Part;
-pub use call::Spot;
+pub use asked::Asked;
+pub use asked::Fault;
+pub use asked::LoneCall;
+pub use asked::Why;
+pub use asked::whole_fault;
 pub use parse::held_call;

@@ -1,109 +1,118 @@
-// The words after a call's name: numbers, one of two words, and the line's end.
+// The operands of a call: what a word of the line says, by the operand's letter.
 ghost use mathlib.Core.Path.{_≡_};
-ghost use Rattle.call_text.specs.Operand.{numbered, readAt, oneAt, twoAt, threeAt, before, eitherAt, endedAt};
-use crate::call::Call;
-use crate::call::Either;
-use crate::call::Fault;
-use crate::call::Operand;
-use crate::choice::Choice;
-use crate::choice::read_choice;
+ghost use Rattle.call_text.specs.Operand.{operandAt, wordSays, oneOf, spotSays, digitsSay, numberSays, valued, wrong};
+use crate::asked::Fault;
+use crate::asked::Why;
+use crate::digits::spells_bytes;
+use crate::word_list::place_of;
 use text::Number;
 use text::Word;
 use text::next_word;
-use text::read_number;
 
-// A number and the place after it.
+// One value or two, and the place behind the operand.
 pub enum Read {
-    Value(u64, usize),
+    One(u64, usize),
+    Two(u64, u64, usize),
     Bad(Fault),
 }
 
-// Up to three numbers, 0 for those that are not asked for, and the place after them.
-pub enum Values {
-    Are(u64, u64, u64, usize),
-    Bad(Fault),
-}
-
-// The number that is the first word from `at` on.
-pub fn read_operand(line: &[u8], at: usize, what: Operand) -> Read
-    ensures { λ r. ⌜ r ≡ readAt (now (line .entry)) at what ⌝ }
+// The operand of a letter, from `at` on. Bytes may be missing: an empty file has none.
+pub fn read_operand(line: &[u8], at: usize, letter: u8) -> Read
+    ensures { λ r. ⌜ r ≡ operandAt (now (line .entry)) at letter ⌝ }
 {
+    if letter == b'0' {
+        return Read::One(0, at);
+    }
+    if letter == b'1' {
+        return Read::One(1, at);
+    }
     let word = next_word(line, at);
     let from = word.from;
     let to = word.to;
-    if from == to {
-        return Read::Bad(Fault::Missing(what));
+    if from != to {
+        return word_says(letter, word, &line[from..to]);
     }
-    numbered_as(what, word, read_number(&line[from..to]))
+    if letter == b'H' {
+        return Read::Two(from as u64, to as u64, to);
+    }
+    bad(Why::Missing, letter, word)
 }
 
-// What a word says as an operand's number.
-fn numbered_as(what: Operand, word: Word, number: Number) -> Read
-    ensures { λ r. ⌜ r ≡ numbered what word number ⌝ }
+fn bad(why: Why, what: u8, word: Word) -> Read
+    ensures { λ r. ⌜ r ≡ wrong why what word ⌝ }
 {
-    match number {
-        Number::Is(value) => Read::Value(value, word.to),
-        Number::TooLarge => Read::Bad(Fault::TooLarge(what, word)),
-        Number::NoNumber => Read::Bad(Fault::NoNumber(what, word)),
-    }
+    Read::Bad(Fault { why, what, word })
 }
 
-pub fn read_one(line: &[u8], at: usize, a: Operand) -> Values
-    ensures { λ r. ⌜ r ≡ oneAt (now (line .entry)) at a ⌝ }
+// What a word says, whose text is given.
+fn word_says(letter: u8, word: Word, text: &[u8]) -> Read
+    ensures { λ r. ⌜ r ≡ wordSays letter word (now (text .entry)) ⌝ }
 {
-    match read_operand(line, at, a) {
-        Read::Value(x, next) => Values::Are(x, 0, 0, next),
-        Read::Bad(fault) => Values::Bad(fault),
-    }
-}
-
-pub fn read_two(line: &[u8], at: usize, a: Operand, b: Operand) -> Values
-    ensures { λ r. ⌜ r ≡ twoAt (now (line .entry)) at a b ⌝ }
-{
-    match read_operand(line, at, a) {
-        Read::Value(x, next) => first_before(x, read_one(line, next, b)),
-        Read::Bad(fault) => Values::Bad(fault),
+    match letter {
+        b'C' => one_of(b'C', word, text, b"cow copy", 2),
+        b'T' => one_of(b'T', word, text, b"- thread", 2),
+        b'W' => one_of(b'W', word, text, b"r w", 2),
+        b'R' => one_of(b'R', word, text, b"unreadable readable", 2),
+        b'K' => one_of(b'K', word, text, b"lazy eager file shared", 4),
+        b'@' => spot_says(word, text),
+        b'H' => digits_say(word, text),
+        _ => number_says(letter, word, text),
     }
 }
 
-pub fn read_three(line: &[u8], at: usize, a: Operand, b: Operand, c: Operand) -> Values
-    ensures { λ r. ⌜ r ≡ threeAt (now (line .entry)) at a b c ⌝ }
+// One of the first `count` words of a list, by its place.
+fn one_of(letter: u8, word: Word, text: &[u8], list: &[u8], count: u64) -> Read
+    ensures { λ r. ⌜ r ≡ oneOf letter word (now (text .entry)) (now (list .entry)) count ⌝ }
 {
-    match read_operand(line, at, a) {
-        Read::Value(x, next) => first_before(x, read_two(line, next, b, c)),
-        Read::Bad(fault) => Values::Bad(fault),
+    let place = place_of(list, count, text);
+    if place < count {
+        return Read::One(place, word.to);
+    }
+    bad(Why::Neither, letter, word)
+}
+
+// `any`, or a start.
+fn spot_says(word: Word, text: &[u8]) -> Read
+    ensures { λ r. ⌜ r ≡ spotSays word (now (text .entry)) ⌝ }
+{
+    if place_of(b"any", 1, text) == 0 {
+        return Read::Two(0, 0, word.to);
+    }
+    number_says(b'@', word, text)
+}
+
+// Bytes, as the place of their digits.
+fn digits_say(word: Word, text: &[u8]) -> Read
+    ensures { λ r. ⌜ r ≡ digitsSay word (now (text .entry)) ⌝ }
+{
+    if spells_bytes(text) {
+        return Read::Two(word.from as u64, word.to as u64, word.to);
+    }
+    bad(Why::NoBytes, b'H', word)
+}
+
+fn number_says(letter: u8, word: Word, text: &[u8]) -> Read
+    ensures { λ r. ⌜ r ≡ numberSays letter word (now (text .entry)) ⌝ }
+{
+    match text::read_number(text) {
+        Number::Is(value) => valued_as(letter, word, value),
+        Number::TooLarge => bad(Why::TooLarge, letter, word),
+        Number::NoNumber => bad(Why::NoNumber, letter, word),
     }
 }
 
-// A number before up to two others.
-fn first_before(x: u64, others: Values) -> Values
-    ensures { λ r. ⌜ r ≡ before x others ⌝ }
+// A number: a start has 1 before it, and a byte is not above 255.
+fn valued_as(letter: u8, word: Word, value: u64) -> Read
+    ensures { λ r. ⌜ r ≡ valued letter word value ⌝ }
 {
-    match others {
-        Values::Are(y, z, _, next) => Values::Are(x, y, z, next),
-        Values::Bad(fault) => Values::Bad(fault),
+    if letter == b'@' {
+        return Read::Two(1, value, word.to);
     }
-}
-
-// Which of two words is the first from `at` on: 0 for the first of them, 1 for the other.
-pub fn read_either(line: &[u8], at: usize, pair: &[u8], which: Either) -> Read
-    ensures { λ r. ⌜ r ≡ eitherAt (now (line .entry)) at (now (pair .entry)) which ⌝ }
-{
-    match read_choice(line, at, pair, 2) {
-        Choice::Is(place, next) => Read::Value(place, next),
-        Choice::Missing => Read::Bad(Fault::Missing(Operand::Either(which))),
-        Choice::Other(word) => Read::Bad(Fault::Neither(which, word)),
+    if value < 256 {
+        return Read::One(value, word.to);
     }
-}
-
-// The call, if no word is left in the line.
-pub fn ended(line: &[u8], at: usize, call: Call) -> Call
-    ensures { λ r. ⌜ r ≡ endedAt (now (line .entry)) at call ⌝ }
-{
-    let word = next_word(line, at);
-    if word.from == word.to {
-        call
-    } else {
-        Call::Bad(Fault::TooManyWords(word))
+    if letter == b'B' {
+        return bad(Why::NoByte, letter, word);
     }
+    Read::One(value, word.to)
 }

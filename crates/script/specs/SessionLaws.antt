@@ -18,19 +18,20 @@ kept-in s l l' o o' f f' b b' r r' p q t u v k =
     (subst (λ (x : ℕ). Kept s l o f b x) v k))))
 
 -- a session whose line was run and whose answer was put
-pub kept-put : (h : Held) (m : Machine) (s : Session) (line out frames files rows : ℕ) → h .len ≡ 0 → Lends m frames files rows → s .held ≡ h → s .machine ≡ m
-    → s .output .at ≤ out → 4096 ≤ out → Kept s line out frames files rows
-kept-put h m s line out frames files rows none lends p q at room =
+pub kept-put : (h : Held) (m : Machine) (s : Session) (line out frames files starts : ℕ) → h .len ≡ 0 → Lends m frames files → s .held ≡ h → s .machine ≡ m
+    → s .output .at ≤ out → 4096 ≤ out → starts ≡ 64 → Kept s line out frames files starts
+kept-put h m s line out frames files starts none lends p q at room listed =
     record {
       held = subst (λ (x : Held). x .len ≤ line) (sym p) (omega (arith, none));
       at = at;
       room = room;
-      lends = subst (λ (x : Machine). Lends x frames files rows) (sym q) lends;
+      lends = subst (λ (x : Machine). Lends x frames files) (sym q) lends;
+      listed = listed;
     }
 
 -- the same machine is lent the same
-pub lends-as : (m m' : Machine) (frames files rows : ℕ) → m' ≡ m → Lends m frames files rows → Lends m' frames files rows
-lends-as m m' frames files rows e l = subst (λ (x : Machine). Lends x frames files rows) (sym e) l
+pub lends-as : (m m' : Machine) (frames files : ℕ) → m' ≡ m → Lends m frames files → Lends m' frames files
+lends-as m m' frames files e l = subst (λ (x : Machine). Lends x frames files) (sym e) l
 
 -- what is read lies in a buffer of the same length
 pub reads-in : (from to n n' : ℕ) → n ≡ n' → (from ≤ to) × (to ≤ n) → (from ≤ to) × (to ≤ n')

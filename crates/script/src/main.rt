@@ -15,7 +15,7 @@ fn main() {
     let mut words = memory::words();
     let mut frames = memory::frames();
     let mut files = memory::files();
-    let mut rows = memory::rows();
+    let mut starts = memory::starts();
     let mut session = Session::new();
     let mut turns = u64::MAX;
     while 0 < turns && session.output.on {
@@ -27,7 +27,7 @@ fn main() {
             &mut words,
             &mut frames,
             &mut files,
-            &mut rows,
+            &mut starts,
         );
         turns -= 1;
     }

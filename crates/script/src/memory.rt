@@ -23,9 +23,9 @@ pub fn files() -> [u8; 262144]
     [0; 262144]
 }
 
-// Three words for each of 8 files.
-pub fn rows() -> [u64; 24]
-    ensures { λ r. ⌜ 24 ≡ length r ⌝ }
+// The starts that a call lists.
+pub fn starts() -> [u64; 64]
+    ensures { λ r. ⌜ 64 ≡ length r ⌝ }
 {
-    [0; 24]
+    [0; 64]
 }

@@ -6,9 +6,8 @@ ghost use Rattle.script_step.specs.MachineStep.{Lends};
 ghost use Rattle.script.specs.Session.{Kept, Reads};
 use crate::output::Output;
 use crate::show::put_said;
-use script_step::asked::Asked;
-use script_step::asked::LoneCall;
-use script_step::asked::whose;
+use call_text::Asked;
+use call_text::LoneCall;
 use script_step::lone::Lone;
 use script_step::machine::Machine;
 use script_step::machine::step;
@@ -37,7 +36,7 @@ struct Heard {
 
 impl Session {
     pub fn new() -> Session
-        ensures { λ r. ⌜ ((line out frames files rows : ℕ) → 4096 ≤ out → 24 ≤ rows → Kept r line out frames files rows) ⌝ }
+        ensures { λ r. ⌜ ((line out frames files starts : ℕ) → 4096 ≤ out → starts ≡ 64 → Kept r line out frames files starts) ⌝ }
         ensures { λ r. ⌜ ((input : ℕ) → Reads r input) ⌝ }
     {
         Session {
@@ -57,7 +56,7 @@ impl Session {
     pub fn filled(mut self, input: &mut [u8], out: &[u8]) -> Session
         requires { ⌜ self .output .at ≤ length (now out) ⌝ }
         requires { ⌜ Reads self (length (now input)) ⌝ }
-        ensures { λ r. ⌜ ((line frames files rows : ℕ) → Kept self line (length (now (out .entry))) frames files rows → Kept r line (length (now (out .entry))) frames files rows) ⌝ }
+        ensures { λ r. ⌜ ((line frames files starts : ℕ) → Kept self line (length (now (out .entry))) frames files starts → Kept r line (length (now (out .entry))) frames files starts) ⌝ }
         ensures { λ r. ⌜ Reads r (length (now (input .entry))) ⌝ }
     {
         if self.from < self.to {
@@ -75,7 +74,7 @@ impl Session {
 
     // Reads once. At the end the last line may have no newline; a blank line more says nothing.
     fn read(mut self, input: &mut [u8]) -> Session
-        ensures { λ r. ⌜ ((line out frames files rows : ℕ) → Kept self line out frames files rows → Kept r line out frames files rows) ⌝ }
+        ensures { λ r. ⌜ ((line out frames files starts : ℕ) → Kept self line out frames files starts → Kept r line out frames files starts) ⌝ }
         ensures { λ r. ⌜ Reads r (length (now (input .entry))) ⌝ }
     {
         self.from = 0;
@@ -99,7 +98,7 @@ impl Session {
     pub fn gathered(mut self, input: &[u8], line: &mut [u8]) -> Session
         requires { ⌜ self .held .len ≤ length (now line) ⌝ }
         requires { ⌜ Reads self (length (now input)) ⌝ }
-        ensures { λ r. ⌜ ((out frames files rows : ℕ) → Kept self (length (now (line .entry))) out frames files rows → Kept r (length (now (line .entry))) out frames files rows) ⌝ }
+        ensures { λ r. ⌜ ((out frames files starts : ℕ) → Kept self (length (now (line .entry))) out frames files starts → Kept r (length (now (line .entry))) out frames files starts) ⌝ }
         ensures { λ r. ⌜ Reads r (length (now (input .entry))) ⌝ }
     {
         let from = self.from;
@@ -125,19 +124,19 @@ impl Session {
         words: &mut [u64],
         frames: &mut [u8],
         files: &mut [u8],
-        rows: &mut [u64],
+        starts: &mut [u64],
     ) -> Session
-        requires { ⌜ Kept self (length (now line)) (length (now out)) (length (now frames)) (length (now files)) (length (now rows)) ⌝ }
-        ensures { λ r. ⌜ Kept r (length (now (line .entry))) (length (now (out .entry))) (length (now (frames .entry))) (length (now (files .entry))) (length (now (rows .entry))) ⌝ }
+        requires { ⌜ Kept self (length (now line)) (length (now out)) (length (now frames)) (length (now files)) (length (now starts)) ⌝ }
+        ensures { λ r. ⌜ Kept r (length (now (line .entry))) (length (now (out .entry))) (length (now (frames .entry))) (length (now (files .entry))) (length (now (starts .entry))) ⌝ }
         ensures { λ r. ⌜ ((input : ℕ) → Reads self input → Reads r input) ⌝ }
     {
         if !self.ended {
             return self;
         }
-        let heard = self.ran(line, words, frames, files, rows);
+        let heard = self.ran(line, words, frames, files, starts);
         let said = heard.said;
         let session = heard.session;
-        session.put(said, line, out, &words[..], &frames[..], &files[..])
+        session.put(said, line, out, &words[..], &frames[..], &starts[..])
     }
 
     // Runs the line that is held.
@@ -147,22 +146,22 @@ impl Session {
         words: &mut [u64],
         frames: &mut [u8],
         files: &mut [u8],
-        rows: &mut [u64],
+        starts: &mut [u64],
     ) -> Heard
         requires { ⌜ self .held .len ≤ length (now line) ⌝ }
-        requires { ⌜ Lends (self .machine) (length (now frames)) (length (now files)) (length (now rows)) ⌝ }
+        requires { ⌜ Lends (self .machine) (length (now frames)) (length (now files)) ⌝ }
         ensures { λ r. ⌜ (r .session .held .len ≡ 0) × (r .session .output ≡ self .output) ⌝ }
-        ensures { λ r. ⌜ Lends (r .session .machine) (length (now (frames .entry))) (length (now (files .entry))) (length (now (rows .entry))) ⌝ }
+        ensures { λ r. ⌜ Lends (r .session .machine) (length (now (frames .entry))) (length (now (files .entry))) ⌝ }
         ensures { λ r. ⌜ ((input : ℕ) → Reads self input → Reads (r .session) input) ⌝ }
     {
-        let asked = whose(call_text::held_call(line, self.held));
+        let asked = call_text::held_call(line, self.held);
         self.held = Held::new();
         self.lines = std::num::wrapping_add_u64(self.lines, 1);
         if let Asked::Lone(call) = asked {
             return self.managed(call);
         }
         let machine = self.machine;
-        let stepped = step(machine, asked, line, words, frames, files, rows);
+        let stepped = step(machine, asked, line, words, frames, files, starts);
         let said = stepped.said;
         let machine = stepped.machine;
         self.machine = machine;
@@ -196,12 +195,12 @@ impl Session {
         out: &mut [u8],
         words: &[u64],
         frames: &[u8],
-        files: &[u8],
+        starts: &[u64],
     ) -> Session
         requires { ⌜ self .output .at ≤ length (now out) ⌝ }
         requires { ⌜ 4096 ≤ length (now out) ⌝ }
         requires { ⌜ self .machine .frames ≤ length (now frames) ⌝ }
-        requires { ⌜ self .machine .bytes ≤ length (now files) ⌝ }
+        requires { ⌜ length (now starts) ≡ 64 ⌝ }
         ensures { λ r. ⌜ r .output .at ≤ length (now (out .entry)) ⌝ }
         ensures { λ r. ⌜ (r .held ≡ self .held) × (r .machine ≡ self .machine) ⌝ }
         ensures { λ r. ⌜ ((input : ℕ) → Reads self input → Reads r input) ⌝ }
@@ -210,7 +209,6 @@ impl Session {
         let lone = self.lone;
         let machine = self.machine;
         let n = machine.frames;
-        let b = machine.bytes;
         let output = put_said(
             output.with_room(&out[..]),
             out,
@@ -220,7 +218,7 @@ impl Session {
             lone.manager,
             words,
             &frames[..n],
-            &files[..b],
+            starts,
         );
         self.output = output;
         self

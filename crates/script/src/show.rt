@@ -19,7 +19,7 @@ pub struct Showing {
     pub more: bool,
 }
 
-// Puts what is written of a line; the lists and the state from the manager or the machine.
+// Puts what is written of a line; lists and state from the manager, the starts or the machine.
 pub fn put_said(
     output: Output,
     out: &mut [u8],
@@ -29,9 +29,10 @@ pub fn put_said(
     manager: VirtualMemoryManager,
     words: &[u64],
     frames: &[u8],
-    files: &[u8],
+    starts: &[u64],
 ) -> Output
     requires { ⌜ output .at + 4096 ≤ length (now out) ⌝ }
+    requires { ⌜ length (now starts) ≡ 64 ⌝ }
     ensures { λ r. ⌜ r .at ≤ length (now (out .entry)) ⌝ }
 {
     let at = output.at;
@@ -40,15 +41,8 @@ pub fn put_said(
         Said::Fault(fault) => {
             output.reaching(answer_text::put_fault(out, at, line, number, fault))
         }
-        Said::NotYet(word) => {
-            output.reaching(answer_text::put_not_yet(out, at, line, number, word))
-        }
-        Said::Answer(answer) => output.reaching(answer_text::put_answer(out, at, answer)),
+        Said::Answer(answer) => output.reaching(answer_text::put_listed(out, at, answer, starts)),
         Said::List => output.reaching(put_list(out, at, manager)),
-        Said::Starts(process) => {
-            let listed = calls::regions(words, frames, files, process);
-            output.reaching(answer_text::put_starts(out, at, listed))
-        }
         Said::State => put_state(output, out, words, frames),
     }
 }

@@ -1,6 +1,7 @@
--- Whose call a line is; the lone manager's steps; the machine's; and what their proofs cite.
-pub mod Asked
+-- The lone manager's steps, a file's line, the machine's steps; and what their proofs cite.
 pub mod LoneStep
-pub mod LoneStepLaws
+pub mod FileStep
 pub mod MachineStep
+pub mod LoneStepLaws
+pub mod FileStepLaws
 pub mod MachineStepLaws

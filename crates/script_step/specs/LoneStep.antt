@@ -3,7 +3,8 @@ use mathlib.Core.Bool.{true, cond}
 use Prim.Native.Nat.{ℕ}
 use Rattle.answer_text.specs.declared.answer.Answer.{Answer}
 use Rattle.answer_text.specs.declared.answer.Answer.the-variants as answer
-use Rattle.call_text.specs.declared.call.Fault.the-variants.{NoManager}
+use Rattle.call_text.specs.declared.asked.Why.the-variants.{NoManager}
+use Rattle.call_text.specs.Faults.{wholeFault}
 use Rattle.segment.specs.declared.Answered.{Answered}
 use Rattle.segment.specs.declared.Answered.the-variants as answered
 use Rattle.segments.specs.declared.table.VirtualMemoryManager.{VirtualMemoryManager}
@@ -15,8 +16,8 @@ use Rattle.segments.specs.declared.manager.SplitInto.{SplitInto}
 use Rattle.segments.specs.declared.manager.SplitInto.the-variants as split
 use Rattle.segment.specs.Form.{startOf}
 use Rattle.segments.specs.Calls.{segment, newCall, reserveCall, markCall, releaseCall, splitCall}
-use Rattle.script_step.specs.declared.asked.LoneCall.{LoneCall}
-use Rattle.script_step.specs.declared.asked.LoneCall.the-variants as call
+use Rattle.call_text.specs.declared.asked.LoneCall.{LoneCall}
+use Rattle.call_text.specs.declared.asked.LoneCall.the-variants as call
 use Rattle.script_step.specs.declared.lone.Lone.{Lone}
 use Rattle.script_step.specs.declared.said.Said.{Said}
 use Rattle.script_step.specs.declared.said.Said.the-variants as said
@@ -31,7 +32,7 @@ answers m a = says (record { made = true; manager = m }) (said.Answer a)
 
 -- before any manager a call of one is answered `no manager yet`
 abbrev pub wanting : Lone → Step → Step
-wanting l s = cond (l .made) s (says l (said.Fault NoManager))
+wanting l s = cond (l .made) s (says l (said.Fault (wholeFault NoManager)))
 
 -- ---- by cases on the manager's answer
 

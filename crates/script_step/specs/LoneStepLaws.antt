@@ -2,7 +2,8 @@
 use mathlib.Core.Path.{_≡_, ap, sym, _∙_}
 use mathlib.Core.Bool.{Bool, true, false, cond}
 use Prim.Native.Nat.{ℕ}
-use Rattle.call_text.specs.declared.call.Fault.the-variants.{NoManager}
+use Rattle.call_text.specs.declared.asked.Why.the-variants.{NoManager}
+use Rattle.call_text.specs.Faults.{wholeFault}
 use Rattle.segment.specs.declared.Answered.{Answered}
 use Rattle.segments.specs.declared.manager.Reserved.{Reserved}
 use Rattle.segments.specs.declared.manager.Released.{Released}
@@ -18,11 +19,11 @@ use Rattle.script_step.specs.declared.said.Said.the-variants as said
 use Rattle.script_step.specs.declared.lone.Step.{Step}
 use Rattle.script_step.specs.LoneStep.{says, wanting, newAs, reservedAs, markedAs, releasedAs, splitAs, newStep, reserveStep, markStep, releaseStep, splitStep}
 
-pub no-manager : (l : Lone) (r s : Step) → l .made ≡ false → r ≡ says l (said.Fault NoManager) → r ≡ wanting l s
-no-manager l r s e p = p ∙ sym (ap (λ (t : Bool). cond t s (says l (said.Fault NoManager))) e)
+pub no-manager : (l : Lone) (r s : Step) → l .made ≡ false → r ≡ says l (said.Fault (wholeFault NoManager)) → r ≡ wanting l s
+no-manager l r s e p = p ∙ sym (ap (λ (t : Bool). cond t s (says l (said.Fault (wholeFault NoManager)))) e)
 
 pub has-manager : (l : Lone) (r s : Step) → l .made ≡ true → r ≡ s → r ≡ wanting l s
-has-manager l r s e p = p ∙ sym (ap (λ (t : Bool). cond t s (says l (said.Fault NoManager))) e)
+has-manager l r s e p = p ∙ sym (ap (λ (t : Bool). cond t s (says l (said.Fault (wholeFault NoManager)))) e)
 
 -- d is what the manager's own call gave, x its answer
 module _ (l : Lone) (r : Step) where

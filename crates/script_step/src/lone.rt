@@ -1,13 +1,16 @@
 // The script's manager: what a call answers, and the manager after it.
 ghost use mathlib.Core.Path.{_≡_};
 ghost use mathlib.Core.Bool.{true, false};
+ghost use Rattle.call_text.specs.declared.asked.Why.the-variants.{NoManager};
+ghost use Rattle.call_text.specs.Faults.{wholeFault};
 ghost use Rattle.script_step.specs.declared.said.Said.the-variants as said;
 ghost use Rattle.script_step.specs.LoneStep.{says, newStep, reserveStep, markStep, releaseStep, splitStep, listStep, stepOf};
-use crate::asked::LoneCall;
 use crate::said::Said;
 use address::VirtAddr;
 use answer_text::Answer;
-use call_text::Fault;
+use call_text::LoneCall;
+use call_text::Why;
+use call_text::whole_fault;
 use segments::Answered;
 use segments::Released;
 use segments::Reserved;
@@ -59,6 +62,12 @@ impl Lone {
         Step { said, lone: self }
     }
 
+    fn no_manager(self) -> Step
+        ensures { λ r. ⌜ r ≡ says self (said.Fault (wholeFault NoManager)) ⌝ }
+    {
+        self.says(Said::Fault(whole_fault(Why::NoManager)))
+    }
+
     // A new manager in the place of the one before, which stays if the new one is refused.
     fn renewed(self, start: u64, size: u64) -> Step
         ensures { λ r. ⌜ r ≡ newStep self start size ⌝ }
@@ -76,7 +85,7 @@ impl Lone {
         ensures { λ r. ⌜ r ≡ reserveStep self len ⌝ }
     {
         if !self.made {
-            return self.says(Said::Fault(Fault::NoManager));
+            return self.no_manager();
         }
         let before = self.manager;
         let done = before.reserve_bytes(len);
@@ -92,7 +101,7 @@ impl Lone {
         ensures { λ r. ⌜ r ≡ markStep self start len ⌝ }
     {
         if !self.made {
-            return self.says(Said::Fault(Fault::NoManager));
+            return self.no_manager();
         }
         let before = self.manager;
         let done = before.mark_as_reserved(Segment::new(VirtAddr(start), len));
@@ -108,7 +117,7 @@ impl Lone {
         ensures { λ r. ⌜ r ≡ releaseStep self start len ⌝ }
     {
         if !self.made {
-            return self.says(Said::Fault(Fault::NoManager));
+            return self.no_manager();
         }
         let before = self.manager;
         let done = before.release(Segment::new(VirtAddr(start), len));
@@ -125,7 +134,7 @@ impl Lone {
         ensures { λ r. ⌜ r ≡ splitStep self start len at ⌝ }
     {
         if !self.made {
-            return self.says(Said::Fault(Fault::NoManager));
+            return self.no_manager();
         }
         let before = self.manager;
         let done = before.split(Segment::new(VirtAddr(start), len), VirtAddr(at));
@@ -145,7 +154,7 @@ impl Lone {
         ensures { λ r. ⌜ r ≡ listStep self ⌝ }
     {
         if !self.made {
-            return self.says(Said::Fault(Fault::NoManager));
+            return self.no_manager();
         }
         self.says(Said::List)
     }

@@ -9,19 +9,19 @@ use Rattle.script.proofs.main.Statement.{statement}
 use Rattle.script.proofs.main.Tie as tie
 
 abbrev Inv-loop : tie.InvT-loop
-Inv-loop input₀ line₀ out₀ words₀ frames₀ files₀ rows₀ session₀ turns₀ input line out words frames files rows session turns =
+Inv-loop input₀ line₀ out₀ words₀ frames₀ files₀ starts₀ session₀ turns₀ input line out words frames files starts session turns =
     (16384 ≡ length input)
     × (65536 ≡ length line)
     × (16384 ≡ length out)
     × (11844 ≡ length words)
     × (1048576 ≡ length frames)
     × (262144 ≡ length files)
-    × (24 ≡ length rows)
-    × Kept session 65536 16384 1048576 262144 24
+    × (64 ≡ length starts)
+    × Kept session 65536 16384 1048576 262144 64
     × Reads session 16384
 
 abbrev μ-loop : tie.MeasureT-loop
-μ-loop input₀ line₀ out₀ words₀ frames₀ files₀ rows₀ session₀ turns₀ input line out words frames files rows session turns = turns
+μ-loop input₀ line₀ out₀ words₀ frames₀ files₀ starts₀ session₀ turns₀ input line out words frames files starts session turns = turns
 
 large-buffer-requires : tie.Need-large-buffer-requires Inv-loop μ-loop
 large-buffer-requires c κs = search needs
@@ -35,14 +35,14 @@ frames-requires c κs = search needs
 files-requires : tie.Need-files-requires Inv-loop μ-loop
 files-requires c κs = search needs
 
-rows-requires : tie.Need-rows-requires Inv-loop μ-loop
-rows-requires c κs = search needs
+starts-requires : tie.Need-starts-requires Inv-loop μ-loop
+starts-requires c κs = search needs
 
 new-requires : tie.Need-new-requires Inv-loop μ-loop
 new-requires c κs = search needs
 
 loop-holds : tie.Need-loop-holds Inv-loop μ-loop
-loop-holds c = (search needs, c .before .before .before .before .before .large-buffer .ensures, search needs, c .before .before .before .before .words .ensures, c .before .before .before .frames .ensures, c .before .before .files .ensures, c .before .rows .ensures, c .new .ensures .0 65536 16384 1048576 262144 24 (omega arith) (omega arith), c .new .ensures .1 16384)
+loop-holds c = (search needs, c .before .before .before .before .before .large-buffer .ensures, search needs, c .before .before .before .before .words .ensures, c .before .before .before .frames .ensures, c .before .before .files .ensures, c .before .starts .ensures, c .new .ensures .0 65536 16384 1048576 262144 64 (omega arith) (omega arith), c .new .ensures .1 16384)
 
 slice-aggregate-filled : tie.Need-slice-aggregate-filled Inv-loop μ-loop
 slice-aggregate-filled c = c .before .before .before .loop .inv .0
@@ -60,7 +60,7 @@ slice-aggregate-gathered-2 : tie.Need-slice-aggregate-gathered-2 Inv-loop μ-loo
 slice-aggregate-gathered-2 c = c .before .before .before .before .before .before .before .before .loop .inv .1
 
 gathered-requires : tie.Need-gathered-requires Inv-loop μ-loop
-gathered-requires c κs = let inv = c .before .before .before .before .before .before .before .before .loop .inv in let kept = c .before .before .before .filled .ensures .0 65536 1048576 262144 24 (kept-in _ _ _ _ _ _ _ _ _ _ _ refl (inv .2) refl refl refl (inv .7)) in let held = kept .held in let line = inv .1 in (omega arith, reads-in _ _ _ _ (sym (c .before .before .before .filled .kept .1 .0)) (c .before .before .before .filled .ensures .1))
+gathered-requires c κs = let inv = c .before .before .before .before .before .before .before .before .loop .inv in let kept = c .before .before .before .filled .ensures .0 65536 1048576 262144 64 (kept-in _ _ _ _ _ _ _ _ _ _ _ refl (inv .2) refl refl refl (inv .7)) in let held = kept .held in let line = inv .1 in (omega arith, reads-in _ _ _ _ (sym (c .before .before .before .filled .kept .1 .0)) (c .before .before .before .filled .ensures .1))
 
 slice-aggregate-answered : tie.Need-slice-aggregate-answered Inv-loop μ-loop
 slice-aggregate-answered c = c .before .before .before .before .before .before .before .before .before .before .before .loop .inv .1 ∙ sym (c .before .before .gathered .kept .1 .1 .0)
@@ -81,7 +81,7 @@ slice-aggregate-answered-6 : tie.Need-slice-aggregate-answered-6 Inv-loop μ-loo
 slice-aggregate-answered-6 c = c .before .before .before .before .before .before .before .before .before .before .before .before .before .before .before .before .loop .inv .6
 
 answered-requires : tie.Need-answered-requires Inv-loop μ-loop
-answered-requires c κs = let inv = c .before .before .before .before .before .before .before .before .before .before .before .before .before .before .before .before .loop .inv in let kept = c .before .before .before .before .before .before .before .before .before .before .before .filled .ensures .0 65536 1048576 262144 24 (kept-in _ _ _ _ _ _ _ _ _ _ _ refl (inv .2) refl refl refl (inv .7)) in kept-in _ _ _ _ _ _ _ _ _ _ _ (sym (c .before .before .before .before .before .before .before .gathered .kept .1 .1 .0)) refl refl refl refl (c .before .before .before .before .before .before .before .gathered .ensures .0 _ _ _ _ (kept-in _ _ _ _ _ _ _ _ _ _ _ (inv .1) refl (inv .4) (inv .5) (inv .6) kept))
+answered-requires c κs = let inv = c .before .before .before .before .before .before .before .before .before .before .before .before .before .before .before .before .loop .inv in let kept = c .before .before .before .before .before .before .before .before .before .before .before .filled .ensures .0 65536 1048576 262144 64 (kept-in _ _ _ _ _ _ _ _ _ _ _ refl (inv .2) refl refl refl (inv .7)) in kept-in _ _ _ _ _ _ _ _ _ _ _ (sym (c .before .before .before .before .before .before .before .gathered .kept .1 .1 .0)) refl refl refl refl (c .before .before .before .before .before .before .before .gathered .ensures .0 _ _ _ _ (kept-in _ _ _ _ _ _ _ _ _ _ _ (inv .1) refl (inv .4) (inv .5) (inv .6) kept))
 
 sub-turns : tie.Need-sub-turns Inv-loop μ-loop
 sub-turns c = let more = c .before .before .before .before .before .before .before .before .before .before .before .before .before .before .before .before .before .before .before .before .before .loop-test .taken in omega arith
@@ -108,7 +108,7 @@ main-spec =
     words-requires
     frames-requires
     files-requires
-    rows-requires
+    starts-requires
     new-requires
     loop-holds
     slice-aggregate-filled

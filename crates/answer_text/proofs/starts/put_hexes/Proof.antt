@@ -7,10 +7,10 @@ use Rattle.answer_text.proofs.starts.put_hexes.Statement.{statement}
 use Rattle.answer_text.proofs.starts.put_hexes.Tie as tie
 
 abbrev Inv-loop : tie.InvT-loop
-Inv-loop out₀ at count numbers next₀ i₀ out next i = (i ≤ count) × (next ≤ at + 19 * i) × (length out ≡ length out₀)
+Inv-loop out₀ at numbers count next₀ i₀ out next i = (i ≤ count) × (next ≤ at + 19 * i) × (length out ≡ length out₀)
 
 abbrev μ-loop : tie.MeasureT-loop
-μ-loop out₀ at count numbers next₀ i₀ out next i = count - i
+μ-loop out₀ at numbers count next₀ i₀ out next i = count - i
 
 loop-holds : tie.Need-loop-holds Inv-loop μ-loop
 loop-holds c = search needs
@@ -18,8 +18,8 @@ loop-holds c = search needs
 mul-put-hex-word : tie.Need-mul-put-hex-word Inv-loop μ-loop
 mul-put-hex-word c = search needs
 
-array-read-put-hex-word : tie.Need-array-read-put-hex-word Inv-loop μ-loop
-array-read-put-hex-word c = search needs
+shared-slice-read-put-hex-word : tie.Need-shared-slice-read-put-hex-word Inv-loop μ-loop
+shared-slice-read-put-hex-word c = search needs
 
 put-hex-word-requires : tie.Need-put-hex-word-requires Inv-loop μ-loop
 put-hex-word-requires c κs = search needs
@@ -47,7 +47,7 @@ put-hexes-spec =
     μ-loop
     loop-holds
     mul-put-hex-word
-    array-read-put-hex-word
+    shared-slice-read-put-hex-word
     put-hex-word-requires
     add-i
     loop-less

@@ -1,93 +1,54 @@
--- `parse::named` meets its contract: each arm is a case of the definition.
-use mathlib.Core.Path.{sym, ap, _∙_}
+-- `parse::named` meets its contract, one law for each way through it.
+use Rattle.call_text.specs.ParseLaws.{named-not, named-create, named-plain}
 use borrow.Author.Needs.{needs}
-use Rattle.call_text.specs.Parse.{callNamed}
 use Rattle.call_text.proofs.parse.named.Statement.{statement}
 use Rattle.call_text.proofs.parse.named.Tie as tie
 
-enum-known-name : tie.Need-enum-known-name
-enum-known-name c = search needs
-
-read-plain-requires : tie.Need-read-plain-requires
-read-plain-requires c κs = search needs
-
-enum-told : tie.Need-enum-told
-enum-told c = search needs
-
-read-store-requires : tie.Need-read-store-requires
-read-store-requires c κs = search needs
-
-enum-told-2 : tie.Need-enum-told-2
-enum-told-2 c = search needs
-
-read-file-requires : tie.Need-read-file-requires
-read-file-requires c κs = search needs
-
-enum-told-3 : tie.Need-enum-told-3
-enum-told-3 c = search needs
-
-read-create-requires : tie.Need-read-create-requires
-read-create-requires c κs = search needs
-
-enum-told-4 : tie.Need-enum-told-4
-enum-told-4 c = search needs
-
-enum-told-5 : tie.Need-enum-told-5
-enum-told-5 c = search needs
-
 returns : tie.Need-returns
-unfolding callNamed
-returns c =
-    let a = c .before .before .before .before .before .args in
-    c .read-plain .ensures ∙ ap (callNamed (a .line .now) (a .word)) (sym (c .before .before .name .given .1))
+returns c = named-not (c .before .before .args .line .now) (c .before .before .args .word) _ (c .if1 .taken)
+
+add-place : tie.Need-add-place
+add-place c = search needs
+
+new-requires : tie.Need-new-requires
+new-requires c κs = search needs
+
+read-form-requires : tie.Need-read-form-requires
+read-form-requires c κs = search needs
+
+array-read-kind : tie.Need-array-read-kind
+array-read-kind c = search needs
+
+first-requires : tie.Need-first-requires
+first-requires c κs = search needs
+
+read-form-requires-2 : tie.Need-read-form-requires-2
+read-form-requires-2 c κs = search needs
+
+finished-requires : tie.Need-finished-requires
+finished-requires c κs = search needs
 
 returns-2 : tie.Need-returns-2
-unfolding callNamed
-returns-2 c =
-    let a = c .before .before .before .before .args in
-    c .read-store .ensures ∙ ap (callNamed (a .line .now) (a .word)) (sym (c .before .enum-told .given .1))
+returns-2 c = named-create (c .before .before .before .before .before .before .before .before .before .args .line .now) (c .before .before .before .before .before .before .before .before .before .args .word) _ (c .before .before .before .before .before .before .before .if1 .left) _ _ (c .before .before .before .before .before .before .new .ensures) (c .before .before .before .before .before .read-form .ensures) _ (c .before .before .before .before .if2 .taken) _ _ (c .before .before .first .ensures) (c .before .read-form2 .ensures) (c .finished .ensures)
+
+finished-requires-2 : tie.Need-finished-requires-2
+finished-requires-2 c κs = search needs
 
 returns-3 : tie.Need-returns-3
-unfolding callNamed
-returns-3 c =
-    let a = c .before .before .before .before .args in
-    c .read-file .ensures ∙ ap (callNamed (a .line .now) (a .word)) (sym (c .before .enum-told2 .given .1))
-
-returns-4 : tie.Need-returns-4
-unfolding callNamed
-returns-4 c =
-    let a = c .before .before .before .before .args in
-    c .read-create .ensures ∙ ap (callNamed (a .line .now) (a .word)) (sym (c .before .enum-told3 .given .1))
-
-returns-5 : tie.Need-returns-5
-unfolding callNamed
-returns-5 c =
-    let a = c .before .before .before .args in
-    ap (callNamed (a .line .now) (a .word)) (sym (c .enum-told4 .given .1))
-
-returns-6 : tie.Need-returns-6
-unfolding callNamed
-returns-6 c =
-    let a = c .before .before .before .args in
-    ap (callNamed (a .line .now) (a .word)) (sym (c .enum-told5 .given .1))
+returns-3 c = named-plain (c .before .before .before .before .before .before .args .line .now) (c .before .before .before .before .before .before .args .word) _ (c .before .before .before .before .if1 .left) _ _ (c .before .before .before .new .ensures) (c .before .before .read-form .ensures) _ (c .before .if2 .left) (c .finished2 .ensures)
 
 pub named-spec : {M : Type 1} → statement M
 named-spec =
     tie.close
     (tie.spec
-    enum-known-name
-    read-plain-requires
-    enum-told
-    read-store-requires
-    enum-told-2
-    read-file-requires
-    enum-told-3
-    read-create-requires
-    enum-told-4
-    enum-told-5
     returns
+    add-place
+    new-requires
+    read-form-requires
+    array-read-kind
+    first-requires
+    read-form-requires-2
+    finished-requires
     returns-2
-    returns-3
-    returns-4
-    returns-5
-    returns-6)
+    finished-requires-2
+    returns-3)

@@ -1,6 +1,6 @@
 -- `parse::parse` meets its contract, one law for each way through it.
-use borrow.Author.Needs.{needs}
 use Rattle.call_text.specs.ParseLaws.{skips-empty, skips-comment, skips-blank, calls}
+use borrow.Author.Needs.{needs}
 use Rattle.call_text.proofs.parse.parse.Statement.{statement}
 use Rattle.call_text.proofs.parse.parse.Tie as tie
 
@@ -17,9 +17,7 @@ next-word-requires : tie.Need-next-word-requires
 next-word-requires c κs = search needs
 
 returns-3 : tie.Need-returns-3
-returns-3 c =
-    let w = c .before .next-word in
-    skips-blank (c .before .before .before .before .before .before .args .line .now) (c .before .before .before .before .if1 .left) (c .before .before .if2 .left) (w .result) (w .ensures .0) (c .if3 .taken)
+returns-3 c = skips-blank (c .before .before .before .before .before .before .args .line .now) (c .before .before .before .before .if1 .left) (c .before .before .if2 .left) (c .before .next-word .result) (c .before .next-word .ensures .0) (c .if3 .taken)
 
 sub-name-of : tie.Need-sub-name-of
 sub-name-of c = search needs
@@ -37,10 +35,7 @@ named-requires : tie.Need-named-requires
 named-requires c κs = search needs
 
 returns-4 : tie.Need-returns-4
-returns-4 c =
-    let w = c .before .before .before .before .next-word in
-    let m = c .before .name-of in
-    calls (c .before .before .before .before .before .before .before .before .before .args .line .now) (c .before .before .before .before .before .before .before .if1 .left) (c .before .before .before .before .before .if2 .left) (w .result) (w .ensures .0) (c .before .before .before .if3 .left) (m .result) (m .ensures) (c .named .result) (c .named .ensures)
+returns-4 c = calls (c .before .before .before .before .before .before .before .before .before .args .line .now) (c .before .before .before .before .before .before .before .if1 .left) (c .before .before .before .before .before .if2 .left) (c .before .before .before .before .next-word .result) (c .before .before .before .before .next-word .ensures .0) (c .before .before .before .if3 .left) (c .before .name-of .result) (c .before .name-of .ensures) (c .named .result) (c .named .ensures)
 
 pub parse-spec : {M : Type 1} → statement M
 parse-spec =

@@ -1,9 +1,9 @@
 -- `Session::answered` meets its contract: a line is run, then its answer put.
-use mathlib.Core.Path.{ap}
+use mathlib.Core.Path.{ap, _∙_}
 use native.Mathlib.Omega.{arith}
-use borrow.Author.Needs.{needs}
 use Rattle.script.specs.declared.output.Output.{Output}
 use Rattle.script.specs.SessionLaws.{kept-put}
+use borrow.Author.Needs.{needs}
 use Rattle.script.proofs.session.Session.answered.Statement.{statement}
 use Rattle.script.proofs.session.Session.answered.Tie as tie
 
@@ -14,7 +14,7 @@ ran-requires : tie.Need-ran-requires
 ran-requires c κs = search needs
 
 put-requires : tie.Need-put-requires
-put-requires c κs = let at = ap (λ (o : Output). o .at) (c .before .before .before .before .before .before .before .before .before .before .before .before .before .ran .ensures .0 .1) in let k = c .before .before .before .before .before .before .before .before .before .before .before .before .before .before .before .before .before .before .before .before .before .before .before .before .before .before .pre .at in let lends = c .before .before .before .before .before .before .before .before .before .before .before .before .before .ran .ensures .1 .0 in let f = lends .in-frames in let b = lends .in-files in (omega arith, (c .before .before .before .before .before .before .before .before .before .before .before .before .before .before .before .before .before .before .before .before .before .before .before .before .before .before .pre .room, (omega arith, omega arith)))
+put-requires c κs = let at = ap (λ (o : Output). o .at) (c .before .before .before .before .before .before .before .before .before .before .before .before .before .ran .ensures .0 .1) in let k = c .before .before .before .before .before .before .before .before .before .before .before .before .before .before .before .before .before .before .before .before .before .before .before .before .before .before .pre .at in let lends = c .before .before .before .before .before .before .before .before .before .before .before .before .before .ran .ensures .1 .0 in let f = lends .in-frames in (omega arith, (c .before .before .before .before .before .before .before .before .before .before .before .before .before .before .before .before .before .before .before .before .before .before .before .before .before .before .pre .room, (omega arith, c .before .before .before .before .before .before .before .before .before .before .before .before .before .ran .kept .1 .1 .1 .1 .1 .0 ∙ c .before .before .before .before .before .before .before .before .before .before .before .before .before .before .before .before .before .before .before .before .before .before .before .before .before .before .pre .listed)))
 
 same-length : tie.Need-same-length
 same-length c = search needs
@@ -32,7 +32,7 @@ same-length-5 : tie.Need-same-length-5
 same-length-5 c = search needs
 
 returns-2 : tie.Need-returns-2
-returns-2 c = (kept-put _ _ _ _ _ _ _ _ (c .before .before .before .before .before .before .before .before .before .before .before .before .before .before .before .before .ran .ensures .0 .0) (c .before .before .before .before .before .before .before .before .before .before .before .before .before .before .before .before .ran .ensures .1 .0) (c .before .before .put .ensures .1 .0 .0) (c .before .before .put .ensures .1 .0 .1) (c .before .before .put .ensures .0) (c .before .before .before .before .before .before .before .before .before .before .before .before .before .before .before .before .before .before .before .before .before .before .before .before .before .before .before .before .before .pre .room), λ input x. c .before .before .put .ensures .1 .1 _ (c .before .before .before .before .before .before .before .before .before .before .before .before .before .before .before .before .ran .ensures .1 .1 _ x))
+returns-2 c = (kept-put _ _ _ _ _ _ _ _ (c .before .before .before .before .before .before .before .before .before .before .before .before .before .before .before .before .ran .ensures .0 .0) (c .before .before .before .before .before .before .before .before .before .before .before .before .before .before .before .before .ran .ensures .1 .0) (c .before .before .put .ensures .1 .0 .0) (c .before .before .put .ensures .1 .0 .1) (c .before .before .put .ensures .0) (c .before .before .before .before .before .before .before .before .before .before .before .before .before .before .before .before .before .before .before .before .before .before .before .before .before .before .before .before .before .pre .room) (c .before .before .before .before .before .before .before .before .before .before .before .before .before .before .before .before .before .before .before .before .before .before .before .before .before .before .before .before .before .pre .listed), λ input x. c .before .before .put .ensures .1 .1 _ (c .before .before .before .before .before .before .before .before .before .before .before .before .before .before .before .before .ran .ensures .1 .1 _ x))
 
 pub answered-spec : {M : Type 1} → statement M
 answered-spec =

@@ -23,7 +23,7 @@ same-length : tie.Need-same-length
 same-length c = search needs
 
 returns-3 : tie.Need-returns-3
-returns-3 c = (λ line frames files rows k. c .before .before .read .ensures .0 _ _ _ _ _ (record { held = k .held; at = let none = c .before .before .before .before .before .flushed .ensures in omega arith; room = k .room; lends = k .lends }), c .before .before .read .ensures .1)
+returns-3 c = (λ line frames files rows k. c .before .before .read .ensures .0 _ _ _ _ _ (record { held = k .held; at = let none = c .before .before .before .before .before .flushed .ensures in omega arith; room = k .room; lends = k .lends; listed = k .listed }), c .before .before .read .ensures .1)
 
 pub filled-spec : {M : Type 1} → statement M
 filled-spec =

@@ -1,4 +1,4 @@
--- `Session::put` meets its contract: the machine is lent the first frames and file bytes.
+-- `Session::put` meets its contract: the machine is lent the first frames.
 use mathlib.Core.Path.{refl, sym}
 use lib.Seq.{length-take-le}
 use native.Mathlib.Omega.{arith}
@@ -12,9 +12,6 @@ with-room-requires c κs = search needs
 slice-aggregate-put-said : tie.Need-slice-aggregate-put-said
 slice-aggregate-put-said c = sym (length-take-le _ _ (let p = c .before .before .before .before .before .before .before .before .before .before .before .before .pre .1 .1 .0 in omega arith))
 
-slice-aggregate-put-said-2 : tie.Need-slice-aggregate-put-said-2
-slice-aggregate-put-said-2 c = sym (length-take-le _ _ (let p = c .before .before .before .before .before .before .before .before .before .before .before .before .before .pre .1 .1 .1 in omega arith))
-
 put-said-requires : tie.Need-put-said-requires
 put-said-requires c κs = search needs
 
@@ -27,10 +24,4 @@ returns c = (c .before .before .put-said .ensures, ((refl, refl), λ input x. x)
 pub put-spec : {M : Type 1} → statement M
 put-spec =
     tie.close
-    (tie.spec
-    with-room-requires
-    slice-aggregate-put-said
-    slice-aggregate-put-said-2
-    put-said-requires
-    same-length
-    returns)
+    (tie.spec with-room-requires slice-aggregate-put-said put-said-requires same-length returns)

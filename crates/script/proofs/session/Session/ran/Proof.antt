@@ -1,16 +1,13 @@
 -- `Session::ran` meets its contract: the manager's calls leave the machine, the machine's keep it lent.
 use mathlib.Core.Path.{refl, ap, _∙_}
-use borrow.Author.Needs.{needs}
 use Rattle.text.specs.declared.lines.Held.{Held}
 use Rattle.script.specs.SessionLaws.{lends-as}
+use borrow.Author.Needs.{needs}
 use Rattle.script.proofs.session.Session.ran.Statement.{statement}
 use Rattle.script.proofs.session.Session.ran.Tie as tie
 
 held-call-requires : tie.Need-held-call-requires
 held-call-requires c κs = search needs
-
-whose-requires : tie.Need-whose-requires
-whose-requires c κs = search needs
 
 new-requires : tie.Need-new-requires
 new-requires c κs = search needs
@@ -25,7 +22,7 @@ managed-requires : tie.Need-managed-requires
 managed-requires c κs = search needs
 
 returns : tie.Need-returns
-returns c = ((ap (λ (h : Held). h .len) (c .managed .ensures .0 .0) ∙ c .before .before .before .before .before .new .ensures, c .managed .ensures .0 .1), (lends-as _ _ _ _ _ (c .managed .ensures .0 .2) (c .before .before .before .before .before .before .before .before .before .before .before .before .before .pre .1), c .managed .ensures .1))
+returns c = ((ap (λ (h : Held). h .len) (c .managed .ensures .0 .0) ∙ c .before .before .before .before .before .new .ensures, c .managed .ensures .0 .1), (lends-as _ _ _ _ (c .managed .ensures .0 .2) (c .before .before .before .before .before .before .before .before .before .before .before .before .pre .1), c .managed .ensures .1))
 
 step-requires : tie.Need-step-requires
 step-requires c κs = search needs
@@ -50,7 +47,6 @@ ran-spec =
     tie.close
     (tie.spec
     held-call-requires
-    whose-requires
     new-requires
     wrapping-add-u64-requires
     enum-known-asked

@@ -8,12 +8,12 @@ use Rattle.script_step.specs.LoneStepLaws.{no-manager, release-is}
 use Rattle.script_step.proofs.lone.Lone.release.Statement.{statement}
 use Rattle.script_step.proofs.lone.Lone.release.Tie as tie
 
-says-requires : tie.Need-says-requires
-says-requires c κs = search needs
+no-manager-requires : tie.Need-no-manager-requires
+no-manager-requires c κs = search needs
 
 returns : tie.Need-returns
 unfolding releaseStep
-returns c = no-manager (c .before .before .before .args .self) (c .says .result) _ (not-true _ (c .before .if1 .taken)) (c .says .ensures)
+returns c = no-manager (c .before .before .before .args .self) (c .no-manager .result) _ (not-true _ (c .before .if1 .taken)) (c .no-manager .ensures)
 
 new-requires : tie.Need-new-requires
 new-requires c κs = search needs
@@ -61,7 +61,7 @@ pub release-spec : {M : Type 1} → statement M
 release-spec =
     tie.close
     (tie.spec
-    says-requires
+    no-manager-requires
     returns
     new-requires
     release-requires

@@ -6,12 +6,12 @@ use Rattle.script_step.specs.LoneStepLaws.{no-manager, reserve-is}
 use Rattle.script_step.proofs.lone.Lone.reserve.Statement.{statement}
 use Rattle.script_step.proofs.lone.Lone.reserve.Tie as tie
 
-says-requires : tie.Need-says-requires
-says-requires c κs = search needs
+no-manager-requires : tie.Need-no-manager-requires
+no-manager-requires c κs = search needs
 
 returns : tie.Need-returns
 unfolding reserveStep
-returns c = no-manager (c .before .before .before .args .self) (c .says .result) _ (not-true _ (c .before .if1 .taken)) (c .says .ensures)
+returns c = no-manager (c .before .before .before .args .self) (c .no-manager .result) _ (not-true _ (c .before .if1 .taken)) (c .no-manager .ensures)
 
 reserve-bytes-requires : tie.Need-reserve-bytes-requires
 reserve-bytes-requires c κs = search needs
@@ -44,7 +44,7 @@ pub reserve-spec : {M : Type 1} → statement M
 reserve-spec =
     tie.close
     (tie.spec
-    says-requires
+    no-manager-requires
     returns
     reserve-bytes-requires
     enum-known-answer

@@ -1,0 +1,2 @@
+-- The machine's answers as the script writes them.
+pub mod Written
