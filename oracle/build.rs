@@ -29,7 +29,7 @@ const BENCH: Library = Library {
     cfg: "proved_bench",
 };
 /// A function that the machine's library has once it has all calls, and what is then set.
-const LAST_CALL: &str = "machine_regions";
+const LAST_CALL: &str = "machine_call";
 const CALLS_CFG: &str = "proved_machine_calls";
 
 fn main() {

@@ -159,9 +159,9 @@ mod timed {
         let mut lent = lent.clone();
         let call = MachineCall::Load { p, addr };
         Some(least(|| {
-            let mut out = [0; oracle::proved::RESULTS];
-            let number = lent.ask(black_box(&call), &mut out);
-            assert!(refused || (number == Some(0) && out[0] == 7));
+            let mut out = [0];
+            let number = lent.ask(black_box(&call), &[], &mut out);
+            assert!(refused || (number == 0 && out[0] == 7));
         }))
     }
 

@@ -9,7 +9,7 @@ use std::time::Instant;
 use oracle::answer::Answer;
 use oracle::calls::{self, ManagerCall};
 use oracle::compare::{
-    check_machine, compare_machines, compare_managers, compare_short, find_panics,
+    Totals, check_machine, compare_machines, compare_managers, compare_short, find_panics,
 };
 use oracle::generate::{MachineScript, ManagerScript};
 use oracle::manager::PlainManager;
@@ -42,8 +42,7 @@ pub fn generate(seed: &str, calls: &str, kind: &str) -> Done {
             Box::new((0..calls).map(move |_| script.next_call().to_string()))
         }
         "machine" => Box::new(machine_lines(MachineScript::new(seed), calls)),
-        "proved" => Box::new(machine_lines(MachineScript::of_set(seed), calls)),
-        _ => return Err(format!("neither manager, machine nor proved: {kind}")),
+        _ => return Err(format!("neither manager nor machine: {kind}")),
     };
     let mut output = BufWriter::new(io::stdout().lock());
     for line in lines {
@@ -63,10 +62,7 @@ fn machine_lines(mut script: MachineScript, calls: u64) -> impl Iterator<Item = 
 enum Second {
     Manager(fn() -> Manager),
     Machine(fn() -> PlainMachine),
-    /// The proved machine, on the calls that it answers, or among all calls.
-    Proved {
-        among_all: bool,
-    },
+    ProvedMachine,
 }
 
 type Manager = Box<dyn FnMut(&ManagerCall) -> Answer>;
@@ -88,28 +84,30 @@ pub fn compare(words: &[&str]) -> Done {
                 .map_err(|finding| finding.to_string())
         }
         Second::Machine(make) => compare_machines(seed, calls, make)
-            .map(|totals| format!("{totals}, no difference"))
+            .map(agreed)
             .map_err(|finding| finding.to_string()),
-        Second::Proved { among_all } => proved_machine(seed, calls, among_all),
+        Second::ProvedMachine => proved_machine(seed, calls),
     })
 }
 
 /// Whether the library of this answerer has what it takes.
 fn is_linked(second: &Second) -> bool {
-    cfg!(proved_machine_calls) || !matches!(second, Second::Proved { .. })
+    cfg!(proved_machine_calls) || !matches!(second, Second::ProvedMachine)
+}
+
+fn agreed(totals: Totals) -> String {
+    format!("{totals}, no difference{}", totals.counts)
 }
 
 #[cfg(proved_machine_calls)]
-fn proved_machine(seed: u64, calls: usize, among_all: bool) -> Result<String, String> {
-    use oracle::compare::{Drawn, compare_proved};
-    let drawn = if among_all { Drawn::All } else { Drawn::Set };
-    compare_proved(seed, calls, drawn)
-        .map(|compared| compared.to_string())
+fn proved_machine(seed: u64, calls: usize) -> Result<String, String> {
+    compare_machines(seed, calls, oracle::proved::ProvedMachine::default)
+        .map(agreed)
         .map_err(|finding| finding.to_string())
 }
 
 #[cfg(not(proved_machine_calls))]
-fn proved_machine(_: u64, _: usize, _: bool) -> Result<String, String> {
+fn proved_machine(_: u64, _: usize) -> Result<String, String> {
     Err(NOT_LINKED.into())
 }
 
@@ -140,8 +138,7 @@ fn second(name: &str) -> Option<Second> {
         "--wrong-manager" => Some(Second::Manager(wrong_manager)),
         "--plain-machine" => Some(Second::Machine(PlainMachine::new)),
         "--wrong-machine" => Some(Second::Machine(PlainMachine::wrong)),
-        "--proved-machine" => Some(Second::Proved { among_all: false }),
-        "--proved-among-all" => Some(Second::Proved { among_all: true }),
+        "--proved-machine" => Some(Second::ProvedMachine),
         _ => None,
     }
 }

@@ -6,10 +6,10 @@ use std::process::ExitCode;
 
 const USAGE: &str = "usage:
   oracle script [--unguarded] FILE|-              answers a script of calls
-  oracle generate SEED CALLS [manager|machine|proved]  writes a random script
+  oracle generate SEED CALLS [manager|machine]    writes a random script
   oracle compare [--calls N] [SECOND] SEED..      compares the Rust with a second answerer:
       the proved manager that is linked, or --plain-manager, --wrong-manager,
-      --plain-machine, --wrong-machine
+      --proved-machine, --plain-machine, --wrong-machine
   oracle short [SECOND]                           compares managers on all short sequences
   oracle check [--calls N] SEED..                 runs the machine: no panic, rules R1 to R6 kept
   oracle panics [--calls N] SEED..                finds the Rust's panics outside the domain

@@ -2,7 +2,9 @@
 
 use oracle::answer::Answer;
 use oracle::calls::ManagerCall;
-use oracle::compare::{check_machine, compare_machines, compare_managers, find_panics};
+use oracle::compare::{
+    EDGES, NAMES, check_machine, compare_machines, compare_managers, find_panics,
+};
 use oracle::manager::PlainManager;
 use oracle::plain::PlainMachine;
 
@@ -29,6 +31,41 @@ fn a_wrong_manager_is_found() {
 fn the_plain_machine_agrees() {
     let compared = compare_machines(5, 3_000, PlainMachine::new);
     assert!(compared.is_ok_and(|totals| totals.in_domain >= 3_000));
+}
+
+#[test]
+fn every_call_is_granted_and_refused_and_every_edge_is_met() {
+    let compared = compare_machines(7, 30_000, PlainMachine::new);
+    let counts = compared.unwrap_or_else(|found| panic!("{found}")).counts;
+    for name in NAMES {
+        assert!(
+            counts.granted.contains_key(name),
+            "{name} was never granted"
+        );
+        assert!(
+            name == "state" || counts.refusals(name) > 0,
+            "{name} was never refused"
+        );
+    }
+    for edge in EDGES {
+        assert!(counts.edges[edge] > 0, "never met: {edge}");
+    }
+    for name in [
+        "carve",
+        "fault",
+        "populate",
+        "eager",
+        "clone_region",
+        "clone",
+    ] {
+        assert!(counts.refused[&(name, 21)] > 0, "{name} met no full table");
+    }
+    for name in ["fault", "populate", "eager"] {
+        assert!(
+            counts.refused[&(name, 16)] > 0,
+            "{name} met no full page table"
+        );
+    }
 }
 
 #[test]

@@ -37,6 +37,22 @@ fn machine() {
 }
 
 #[test]
+fn proved() {
+    assert_list(
+        include_str!("../lists/proved.calls"),
+        include_str!("../lists/proved.answers"),
+    );
+}
+
+#[test]
+fn edges() {
+    assert_list(
+        include_str!("../lists/edges.calls"),
+        include_str!("../lists/edges.answers"),
+    );
+}
+
+#[test]
 fn points() {
     assert_list(
         include_str!("../lists/points.calls"),

@@ -214,32 +214,9 @@ fn full_machines_made_by_hand_are_sound() {
     assert!(tables.regions.iter().all(|region| region.kind != 0));
 }
 
-#[test]
-fn the_set_is_drawn_alone() {
-    let mut script = MachineScript::of_set(8);
-    for _ in 0..5_000 {
-        let call = script.next_call();
-        let set = [
-            "start", "open", "close", "create", "region", "regions", "covers", "load", "store",
-            "state",
-        ];
-        assert!(set.contains(&call.name()), "{call}");
-    }
-}
-
 #[cfg(proved_machine)]
 #[test]
 fn damage_is_seen_alike() {
     let totals = oracle::damage::damage(9, 1_000).unwrap_or_else(|finding| panic!("{finding}"));
     assert!(totals.still_sound > 0 && totals.broken.iter().skip(1).all(|count| *count > 0));
-}
-
-#[cfg(proved_machine_calls)]
-#[test]
-fn the_proved_machine_agrees() {
-    use oracle::compare::{Drawn, compare_proved};
-    for drawn in [Drawn::Set, Drawn::All] {
-        let compared = compare_proved(10, 5_000, drawn);
-        assert!(compared.is_ok_and(|compared| compared.calls >= 5_000));
-    }
 }

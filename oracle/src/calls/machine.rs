@@ -124,6 +124,47 @@ impl MachineCall {
         }
     }
 
+    /// The process that it names first.
+    #[must_use]
+    pub fn process(&self) -> Option<u64> {
+        match *self {
+            Self::File { .. } | Self::Start { .. } | Self::Open { .. } | Self::State => None,
+            Self::Create(Create { p, .. })
+            | Self::Close { p }
+            | Self::Remove { p, .. }
+            | Self::Clear { p }
+            | Self::Carve { p, .. }
+            | Self::Covers { p, .. }
+            | Self::Region { p, .. }
+            | Self::Regions { p }
+            | Self::Fault { p, .. }
+            | Self::Populate { p, .. }
+            | Self::Eager { p }
+            | Self::CloneRegion { p, .. }
+            | Self::Clone { p, .. }
+            | Self::Protect { p, .. }
+            | Self::Pin { p, .. }
+            | Self::Unpin { p, .. }
+            | Self::Load { p, .. }
+            | Self::Store { p, .. } => Some(p),
+        }
+    }
+
+    /// The address by which it names a region.
+    #[must_use]
+    pub fn address(&self) -> Option<u64> {
+        match *self {
+            Self::Remove { addr, .. }
+            | Self::Region { addr, .. }
+            | Self::Fault { addr, .. }
+            | Self::CloneRegion { addr, .. }
+            | Self::Protect { addr, .. }
+            | Self::Pin { addr, .. }
+            | Self::Unpin { addr, .. } => Some(addr),
+            _ => None,
+        }
+    }
+
     /// The call of this name, or nothing where the name is another's.
     ///
     /// # Errors

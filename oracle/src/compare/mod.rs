@@ -1,18 +1,18 @@
 //! Runs two answerers side by side and finds the shortest script on which they differ.
 
+mod counts;
 mod machine;
 mod manager;
 mod panics;
-#[cfg(proved_machine_calls)]
-mod proved;
+mod second;
 mod short;
 mod shrink;
 
+pub use counts::{Counts, EDGES, NAMES};
 pub use machine::{Totals, check_machine, compare_machines, is_script, with_files};
 pub use manager::compare_managers;
 pub use panics::{Panics, find_panics};
-#[cfg(proved_machine_calls)]
-pub use proved::{Compared, Drawn, compare_proved};
+pub use second::Second;
 pub use short::compare_short;
 pub use shrink::shrink;
 

@@ -12,7 +12,8 @@ pub fn shrink<C: Clone>(calls: &[C], found: impl Fn(&[C]) -> bool) -> Vec<C> {
             if found(&shorter) {
                 calls = shorter;
             } else {
-                at += run;
+                // pairs at odd places too: what goes by every second call stays only if two are dropped
+                at += (run / 2).max(1);
             }
         }
         if run == 1 && calls.len() == before {

@@ -10,6 +10,8 @@ mod process;
 mod regions;
 mod snapshot;
 
+pub use kernel::mem::address_space::USER_PAGES as MAPPED;
+pub use process::Process;
 pub use snapshot::{ProcessView, RegionKind, RegionView, Snapshot, sum};
 
 use std::sync::Arc;
@@ -17,7 +19,6 @@ use std::sync::Arc;
 use kernel::mem::address_space::AddressSpace;
 use kernel::mem::phys;
 use kernel_vfs::node::VfsNode;
-use process::Process;
 
 use crate::answer::{Answer, Refusal};
 use crate::calls::MachineCall;
@@ -132,6 +133,12 @@ impl Machine {
         process.clear();
         self.processes[p as usize] = None;
         Ok(Answer::done())
+    }
+
+    /// The kernel's own parts of an open process, its page table made the active one.
+    #[must_use]
+    pub fn parts(&self, p: u64) -> Option<&Process> {
+        self.process(p).ok()
     }
 
     /// The open process of this number, its page table made the active one.

@@ -84,6 +84,12 @@ impl Machine {
         }
         all
     }
+
+    /// Whether a frame has exactly these bytes.
+    #[must_use]
+    pub fn has_bytes(&self, frame: usize, bytes: &[u8]) -> bool {
+        phys::with_bytes(frame, |own| own[..] == *bytes)
+    }
 }
 
 #[must_use]

@@ -2,9 +2,11 @@
 //! start that can be lowest, and counts what the search has passed. It can be made wrong in one
 //! place, to show that a comparison finds it.
 
-use super::{SEGMENTS, form};
 use crate::answer::{Answer, Refusal, Value};
 use crate::calls::ManagerCall;
+
+/// RULES N2.
+const SEGMENTS: usize = 64;
 
 #[derive(Clone, Debug, Default)]
 pub struct PlainManager {
@@ -45,7 +47,7 @@ impl PlainManager {
     }
 
     fn try_answer(&mut self, call: &ManagerCall) -> Result<Answer, Refusal> {
-        form::test(call)?;
+        test_form(call)?;
         match *call {
             ManagerCall::Manager { start, size } => {
                 *self = Self {
@@ -152,6 +154,36 @@ impl PlainManager {
             })
         })
     }
+}
+
+/// The rules' test of form (RULES E3, S2), written apart from the harness's own, so that the two are
+/// compared as well.
+fn test_form(call: &ManagerCall) -> Result<(), Refusal> {
+    let (segment, at) = match *call {
+        ManagerCall::Manager { start, size } => ((start, size), start),
+        ManagerCall::Mark { start, len } | ManagerCall::Release { start, len } => {
+            ((start, len), start)
+        }
+        ManagerCall::Split { start, len, at } => ((start, len), at),
+        ManagerCall::Reserve { .. } | ManagerCall::Segments => return Ok(()),
+    };
+    if half(segment.0).is_none() || half(at).is_none() {
+        return Err(Refusal::BadAddress);
+    }
+    let fits = segment.1 == 0 || is_in_one_half(segment);
+    fits.then_some(()).ok_or(Refusal::BadRange)
+}
+
+/// The first address of the half in which a canonical address lies: bits 47 to 63 are all the same.
+fn half(addr: u64) -> Option<u64> {
+    let extended = ((addr << 16) as i64 >> 16) as u64;
+    (extended == addr).then_some(addr >> 47 << 47)
+}
+
+/// Whether a segment that is not empty, at a canonical start, ends in the half in which it starts.
+fn is_in_one_half((start, len): (u64, u64)) -> bool {
+    let end = u128::from(start) + u128::from(len);
+    half(start).is_some_and(|first| end <= u128::from(first) + (1 << 47))
 }
 
 /// The last byte of a segment that has one.

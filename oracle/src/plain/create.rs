@@ -3,10 +3,10 @@
 use std::collections::BTreeMap;
 
 use super::region::Region;
-use super::{PAGE, PlainMachine, Process};
+use super::{PAGE, PlainMachine, Process, form};
 use crate::answer::{Answer, Refusal};
 use crate::calls::{Create, Kind};
-use crate::machine::{RegionKind, form};
+use crate::machine::RegionKind;
 
 impl PlainMachine {
     pub(super) fn create(&mut self, create: &Create) -> Result<Answer, Refusal> {

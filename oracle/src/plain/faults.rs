@@ -1,9 +1,9 @@
 //! Faults, populate and eager populate in the plain machine.
 
 use super::region::Region;
-use super::{ALL_FLAGS, Bytes, ENTRIES, PAGE, PlainMachine, USER, WRITABLE};
+use super::{ALL_FLAGS, Bytes, ENTRIES, PAGE, PlainMachine, USER, WRITABLE, form};
 use crate::answer::{Answer, Refusal};
-use crate::machine::{RegionKind, form};
+use crate::machine::RegionKind;
 
 impl PlainMachine {
     /// The fault at a page of the region at place `at` in the list.

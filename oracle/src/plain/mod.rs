@@ -5,6 +5,7 @@
 mod create;
 mod faults;
 mod forks;
+mod form;
 mod region;
 mod regions;
 mod state;
@@ -15,10 +16,15 @@ use region::Region;
 
 use crate::answer::{Answer, Refusal};
 use crate::calls::MachineCall;
-use crate::machine::{ENTRIES, FILES, PROCESSES, SLOTS, form};
 
-const FRAMES: u64 = 256;
+// RULES N3 to N9.
+const PROCESSES: usize = 8;
+const SLOTS: usize = 64;
 const MAPPED: usize = 128;
+const ENTRIES: usize = 512;
+const FILES: usize = 8;
+const FRAMES: u64 = 256;
+const PINS: u64 = 65_535;
 pub const PAGE: u64 = 4096;
 pub const WRITABLE: u64 = 1 << 1;
 pub const USER: u64 = 1 << 2;
@@ -61,6 +67,12 @@ impl PlainMachine {
 
     pub fn answer(&mut self, call: &MachineCall) -> Answer {
         self.try_answer(call).into()
+    }
+
+    /// The bytes of a frame that is there.
+    #[must_use]
+    pub fn frame(&self, frame: usize) -> &[u8] {
+        &self.frames[frame]
     }
 
     /// The process of this number, if it is open.

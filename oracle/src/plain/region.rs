@@ -3,8 +3,8 @@
 use std::collections::BTreeMap;
 use std::ops::Range;
 
-use super::PAGE;
-use crate::machine::{RegionKind, form};
+use super::{PAGE, form};
+use crate::machine::RegionKind;
 
 #[derive(Clone)]
 pub struct Region {

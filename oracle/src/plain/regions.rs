@@ -1,9 +1,9 @@
 //! Removal, carve, covers, protection and pins in the plain machine.
 
 use super::region::Region;
-use super::{PlainMachine, Process, WRITABLE};
+use super::{PINS, PlainMachine, Process, SLOTS, WRITABLE, form};
 use crate::answer::{Answer, Refusal};
-use crate::machine::{PINS, RegionKind, form};
+use crate::machine::RegionKind;
 
 impl PlainMachine {
     pub(super) fn remove(&mut self, p: u64, addr: u64) -> Result<Answer, Refusal> {
@@ -131,7 +131,7 @@ impl Process {
             } => Some(Refusal::Shared),
             Region { range: Some(_), .. } => Some(Refusal::EagerBacking),
             Region { pins: 1.., .. } => Some(Refusal::InUse),
-            _ => (slots > super::SLOTS).then_some(Refusal::TableFull),
+            _ => (slots > SLOTS).then_some(Refusal::TableFull),
         }
     }
 }

@@ -1,210 +1,103 @@
 //! The library's calls over lent memory of whatever lengths: numbers in, numbers out.
 
 use super::Lent;
+use super::exports::*;
 use crate::calls::{Create, Kind, MachineCall, Marks};
 
-/// Results of a call that has one.
-pub const RESULTS: usize = 1;
-/// Results of `regions`: how many there are, and 64 starts.
+/// Results of a list of regions, how many there are and 64 starts, and of any call by its number.
 pub const LIST: usize = 65;
 
-unsafe extern "C" {
-    fn machine_start(
-        words: *mut u64,
-        words_len: usize,
-        frames: *const u8,
-        frames_len: usize,
-        files: *const u8,
-        files_len: usize,
-        rows: *const u64,
-        rows_len: usize,
-    ) -> u64;
-    fn machine_open(
-        words: *mut u64,
-        words_len: usize,
-        frames: *const u8,
-        frames_len: usize,
-        files: *const u8,
-        files_len: usize,
-        start: u64,
-        size: u64,
-        out: *mut u64,
-        out_len: usize,
-    ) -> u64;
-    fn machine_close(
-        words: *mut u64,
-        words_len: usize,
-        frames: *const u8,
-        frames_len: usize,
-        files: *const u8,
-        files_len: usize,
-        process: u64,
-    ) -> u64;
-    fn machine_create_private(
-        words: *mut u64,
-        words_len: usize,
-        frames: *mut u8,
-        frames_len: usize,
-        files: *const u8,
-        files_len: usize,
-        process: u64,
-        given: u64,
-        start: u64,
-        size: u64,
-        flags: u64,
-        copy: u64,
-        thread: u64,
-        eager: u64,
-        out: *mut u64,
-        out_len: usize,
-    ) -> u64;
-    fn machine_create_file(
-        words: *mut u64,
-        words_len: usize,
-        frames: *mut u8,
-        frames_len: usize,
-        files: *const u8,
-        files_len: usize,
-        process: u64,
-        given: u64,
-        start: u64,
-        size: u64,
-        flags: u64,
-        copy: u64,
-        thread: u64,
-        file: u64,
-        offset: u64,
-        length: u64,
-        out: *mut u64,
-        out_len: usize,
-    ) -> u64;
-    fn machine_create_shared(
-        words: *mut u64,
-        words_len: usize,
-        frames: *mut u8,
-        frames_len: usize,
-        files: *const u8,
-        files_len: usize,
-        process: u64,
-        given: u64,
-        start: u64,
-        size: u64,
-        out: *mut u64,
-        out_len: usize,
-    ) -> u64;
-    fn machine_region(
-        words: *const u64,
-        words_len: usize,
-        frames: *const u8,
-        frames_len: usize,
-        files: *const u8,
-        files_len: usize,
-        process: u64,
-        addr: u64,
-        out: *mut u64,
-        out_len: usize,
-    ) -> u64;
-    fn machine_regions(
-        words: *const u64,
-        words_len: usize,
-        frames: *const u8,
-        frames_len: usize,
-        files: *const u8,
-        files_len: usize,
-        process: u64,
-        out: *mut u64,
-        out_len: usize,
-    ) -> u64;
-    fn machine_covers(
-        words: *const u64,
-        words_len: usize,
-        frames: *const u8,
-        frames_len: usize,
-        files: *const u8,
-        files_len: usize,
-        process: u64,
-        start: u64,
-        end: u64,
-        out: *mut u64,
-        out_len: usize,
-    ) -> u64;
-    fn machine_load(
-        words: *const u64,
-        words_len: usize,
-        frames: *const u8,
-        frames_len: usize,
-        files: *const u8,
-        files_len: usize,
-        process: u64,
-        addr: u64,
-        out: *mut u64,
-        out_len: usize,
-    ) -> u64;
-    fn machine_store(
-        words: *const u64,
-        words_len: usize,
-        frames: *mut u8,
-        frames_len: usize,
-        files: *const u8,
-        files_len: usize,
-        process: u64,
-        addr: u64,
-        byte: u8,
-    ) -> u64;
+/// How many results a call has by its name.
+#[must_use]
+pub fn results(call: &MachineCall) -> usize {
+    match call {
+        MachineCall::Regions { .. } | MachineCall::Carve { .. } => LIST,
+        MachineCall::Open { .. }
+        | MachineCall::Create(_)
+        | MachineCall::Covers { .. }
+        | MachineCall::Region { .. }
+        | MachineCall::Load { .. } => 1,
+        _ => 0,
+    }
 }
 
 impl Lent {
-    /// Starts a machine with these rows of files on the lent memory.
-    pub fn start(&mut self, rows: &[u64]) -> u64 {
-        let (w, f, b) = (&mut self.words, &self.frames, &self.files);
-        // SAFETY: the function reads and writes inside the four slices that it is lent, which are
-        // apart; the words alone are written.
+    /// The number that `machine_call` gives for a call in words, whatever they are.
+    pub fn ask_number(&mut self, call: &[u64], out: &mut [u64]) -> u64 {
+        let (w, f, b) = (&mut self.words, &mut self.frames, &self.files);
+        // SAFETY: the function reads and writes inside the slices that it is lent, which are apart.
         unsafe {
-            machine_start(
+            machine_call(
                 w.as_mut_ptr(),
                 w.len(),
-                f.as_ptr(),
+                f.as_mut_ptr(),
                 f.len(),
                 b.as_ptr(),
                 b.len(),
-                rows.as_ptr(),
-                rows.len(),
+                call.as_ptr(),
+                call.len(),
+                out.as_mut_ptr(),
+                out.len(),
             )
         }
     }
 
-    /// Answers the number that the library gives, 0 is success, or nothing where the call is not one
-    /// of those that the library has over a started machine.
-    pub fn ask(&mut self, call: &MachineCall, out: &mut [u64]) -> Option<u64> {
-        if let MachineCall::Create(create) = call {
-            return Some(self.create(create, out));
-        }
+    /// The number that the call's own function gives; 0 is success. A start takes `rows`. The state is the
+    /// harness's own, and so is a file: there the library is asked whether the machine is sound.
+    pub fn ask(&mut self, call: &MachineCall, rows: &[u64], out: &mut [u64]) -> u64 {
         let (w, wn) = (self.words.as_mut_ptr(), self.words.len());
         let (f, fn_) = (self.frames.as_mut_ptr(), self.frames.len());
         let (b, bn) = (self.files.as_ptr(), self.files.len());
         let (o, on) = (out.as_mut_ptr(), out.len());
         // SAFETY: each function reads and writes inside the slices that it is lent, which are apart.
-        let number = unsafe {
+        unsafe {
             match *call {
+                MachineCall::File { .. } | MachineCall::State => self.sound(),
+                MachineCall::Start { .. } => {
+                    machine_start(w, wn, f, fn_, b, bn, rows.as_ptr(), rows.len())
+                }
                 MachineCall::Open { start, size } => {
                     machine_open(w, wn, f, fn_, b, bn, start, size, o, on)
                 }
                 MachineCall::Close { p } => machine_close(w, wn, f, fn_, b, bn, p),
+                MachineCall::Create(ref create) => self.create(create, out),
+                MachineCall::Remove { p, addr } => machine_remove(w, wn, f, fn_, b, bn, p, addr),
+                MachineCall::Clear { p } => machine_clear(w, wn, f, fn_, b, bn, p),
+                MachineCall::Carve { p, start, end } => {
+                    machine_carve(w, wn, f, fn_, b, bn, p, start, end, o, on)
+                }
+                MachineCall::Covers { p, start, end } => {
+                    machine_covers(w, wn, f, fn_, b, bn, p, start, end, o, on)
+                }
                 MachineCall::Region { p, addr } => {
                     machine_region(w, wn, f, fn_, b, bn, p, addr, o, on)
                 }
                 MachineCall::Regions { p } => machine_regions(w, wn, f, fn_, b, bn, p, o, on),
-                MachineCall::Covers { p, start, end } => {
-                    machine_covers(w, wn, f, fn_, b, bn, p, start, end, o, on)
+                MachineCall::Fault { p, addr, write } => {
+                    machine_fault(w, wn, f, fn_, b, bn, p, addr, write.into())
                 }
+                MachineCall::Populate {
+                    p,
+                    addr,
+                    len,
+                    write,
+                } => machine_populate(w, wn, f, fn_, b, bn, p, addr, len, write.into()),
+                MachineCall::Eager { p } => machine_eager(w, wn, f, fn_, b, bn, p),
+                MachineCall::CloneRegion { p, addr, target } => {
+                    machine_clone_region(w, wn, f, fn_, b, bn, p, addr, target)
+                }
+                MachineCall::Clone { p, target } => machine_clone(w, wn, f, fn_, b, bn, p, target),
+                MachineCall::Protect { p, addr, flags } => {
+                    machine_protect(w, wn, f, fn_, b, bn, p, addr, flags)
+                }
+                MachineCall::Pin { p, addr } => machine_pin(w, wn, f, fn_, b, bn, p, addr),
+                MachineCall::Unpin { p, addr } => machine_unpin(w, wn, f, fn_, b, bn, p, addr),
                 MachineCall::Load { p, addr } => machine_load(w, wn, f, fn_, b, bn, p, addr, o, on),
                 MachineCall::Store { p, addr, byte } => {
                     machine_store(w, wn, f, fn_, b, bn, p, addr, byte)
                 }
-                _ => return None,
             }
-        };
-        Some(number)
+        }
     }
 
     fn create(&mut self, create: &Create, out: &mut [u64]) -> u64 {

@@ -27,11 +27,29 @@ unsafe extern "C" {
 }
 
 /// The three slices of a machine.
-#[derive(Clone, Debug, Default, PartialEq, Eq)]
+#[derive(Debug, Default, PartialEq, Eq)]
 pub struct Lent {
     pub words: Vec<u64>,
     pub frames: Vec<u8>,
     pub files: Vec<u8>,
+}
+
+impl Clone for Lent {
+    fn clone(&self) -> Self {
+        Self {
+            words: self.words.clone(),
+            frames: self.frames.clone(),
+            files: self.files.clone(),
+        }
+    }
+
+    /// Into the memory that is there: a machine is put back after each call, and a megabyte made anew
+    /// each time would take most of the time.
+    fn clone_from(&mut self, other: &Self) {
+        self.words.clone_from(&other.words);
+        self.frames.clone_from(&other.frames);
+        self.files.clone_from(&other.files);
+    }
 }
 
 impl Lent {

@@ -1,8 +1,9 @@
 //! The proved machine as a value of Rust: it owns its words, frames and files, and answers each call
-//! with a value or a refusal. No call panics, and the memory is never lent beyond a call.
+//! with a value or a refusal. No call panics, and the memory is never lent beyond a call. Calls go by
+//! their own functions and by their numbers in turn, so that both ways are tried.
 
-use super::Lent;
-use super::calls::{LIST, RESULTS};
+use super::calls::LIST;
+use super::{Lent, numbered};
 use crate::answer::{Answer, Refusal};
 use crate::calls::{Create, MachineCall};
 use crate::machine::Snapshot;
@@ -15,7 +16,11 @@ const UNTOUCHED: u8 = 0xa5;
 
 pub struct ProvedMachine {
     lent: Lent,
+    /// What was lent before the last call.
+    before: Lent,
     files: Vec<File>,
+    /// How many calls the library was asked.
+    asked: u64,
     /// How the library broke its contract, if it did.
     breach: Option<&'static str>,
 }
@@ -28,7 +33,9 @@ impl Default for ProvedMachine {
                 words: vec![0; WORDS],
                 ..Lent::default()
             },
+            before: Lent::default(),
             files: Vec::new(),
+            asked: 0,
             breach: None,
         }
     }
@@ -49,27 +56,16 @@ impl ProvedMachine {
     /// # Errors
     /// `BadTable` for more than 256; the machine is then as it was.
     pub fn start(&mut self, frames: u64) -> Result<(), Refusal> {
-        let bytes = frames.min(TOO_MANY) as usize * FRAME_BYTES;
-        let before = self.lent.words.clone();
-        let fresh = vec![UNTOUCHED; bytes];
-        let frames = std::mem::replace(&mut self.lent.frames, fresh);
-        let rows: Vec<u64> = self
-            .files
-            .iter()
-            .flat_map(|row| <[u64; 3]>::from(*row))
-            .collect();
-        let number = self.lent.start(&rows);
+        let fresh = vec![UNTOUCHED; frames.min(TOO_MANY) as usize * FRAME_BYTES];
+        let old = std::mem::replace(&mut self.lent.frames, fresh);
+        let started = self.none(&MachineCall::Start { frames });
         if self.lent.frames.iter().any(|byte| *byte != UNTOUCHED) {
             self.breach = Some("a start changed the frames");
         }
-        if number == 0 {
-            return Ok(());
+        if started.is_err() {
+            self.lent.frames = old;
         }
-        self.lent.frames = frames;
-        if self.lent.words != before {
-            self.breach = Some("a refusal changed the words");
-        }
-        Err(self.refusal(number))
+        started
     }
 
     /// Opens a process and answers its number.
@@ -94,6 +90,28 @@ impl ProvedMachine {
         self.one(&MachineCall::Create(create.clone()))
     }
 
+    /// Takes a region out of its process; a pinned one stays, detached.
+    ///
+    /// # Errors
+    /// The refusal of the rules (RULES E).
+    pub fn remove(&mut self, p: u64, addr: u64) -> Result<(), Refusal> {
+        self.none(&MachineCall::Remove { p, addr })
+    }
+
+    /// # Errors
+    /// The refusal of the rules (RULES E).
+    pub fn clear(&mut self, p: u64) -> Result<(), Refusal> {
+        self.none(&MachineCall::Clear { p })
+    }
+
+    /// Splits regions at the bounds and answers the starts of those inside, in list order.
+    ///
+    /// # Errors
+    /// The refusal of the rules (RULES E); the splits before it stay.
+    pub fn carve(&mut self, p: u64, start: u64, end: u64) -> Result<Vec<u64>, Refusal> {
+        self.list(&MachineCall::Carve { p, start, end })
+    }
+
     /// The start of the attached region at an address.
     ///
     /// # Errors
@@ -107,15 +125,7 @@ impl ProvedMachine {
     /// # Errors
     /// The refusal of the rules (RULES E).
     pub fn regions(&mut self, p: u64) -> Result<Vec<u64>, Refusal> {
-        let mut out = [u64::MAX; LIST];
-        self.settle(&MachineCall::Regions { p }, &mut out)?;
-        let [count, starts @ ..] = &out;
-        let count = usize::try_from(*count).unwrap_or(LIST).min(starts.len());
-        let (starts, rest) = starts.split_at(count);
-        if rest.iter().any(|word| *word != 0) {
-            self.breach = Some("a result that has no meaning is not 0");
-        }
-        Ok(starts.to_vec())
+        self.list(&MachineCall::Regions { p })
     }
 
     /// Whether every address from `start` up to `end` lies in an attached region.
@@ -128,6 +138,67 @@ impl ProvedMachine {
             self.breach = Some("a verdict is neither 0 nor 1");
         }
         Ok(verdict == 1)
+    }
+
+    /// Has the page of an address in place for a read or a write.
+    ///
+    /// # Errors
+    /// The refusal of the rules (RULES E).
+    pub fn fault(&mut self, p: u64, addr: u64, write: bool) -> Result<(), Refusal> {
+        self.none(&MachineCall::Fault { p, addr, write })
+    }
+
+    /// Has the pages of a range in place.
+    ///
+    /// # Errors
+    /// The refusal of the rules (RULES E); the pages before it stay.
+    pub fn populate(&mut self, p: u64, addr: u64, len: u64, write: bool) -> Result<(), Refusal> {
+        self.none(&MachineCall::Populate {
+            p,
+            addr,
+            len,
+            write,
+        })
+    }
+
+    /// Has the pages of all private `CopyEager` regions in place for writes.
+    ///
+    /// # Errors
+    /// The refusal of the rules (RULES E); the pages before it stay.
+    pub fn eager(&mut self, p: u64) -> Result<(), Refusal> {
+        self.none(&MachineCall::Eager { p })
+    }
+
+    /// # Errors
+    /// The refusal of the rules (RULES E).
+    pub fn clone_region(&mut self, p: u64, addr: u64, target: u64) -> Result<(), Refusal> {
+        self.none(&MachineCall::CloneRegion { p, addr, target })
+    }
+
+    /// Clones all regions of a process that are not per-thread.
+    ///
+    /// # Errors
+    /// The refusal of the rules (RULES E); the clones before it stay.
+    pub fn clone_process(&mut self, p: u64, target: u64) -> Result<(), Refusal> {
+        self.none(&MachineCall::Clone { p, target })
+    }
+
+    /// # Errors
+    /// The refusal of the rules (RULES E).
+    pub fn protect(&mut self, p: u64, addr: u64, flags: u64) -> Result<(), Refusal> {
+        self.none(&MachineCall::Protect { p, addr, flags })
+    }
+
+    /// # Errors
+    /// The refusal of the rules (RULES E).
+    pub fn pin(&mut self, p: u64, addr: u64) -> Result<(), Refusal> {
+        self.none(&MachineCall::Pin { p, addr })
+    }
+
+    /// # Errors
+    /// The refusal of the rules (RULES E).
+    pub fn unpin(&mut self, p: u64, addr: u64) -> Result<(), Refusal> {
+        self.none(&MachineCall::Unpin { p, addr })
     }
 
     /// # Errors
@@ -157,58 +228,66 @@ impl ProvedMachine {
         decode(words, &self.lent.frames, bytes)
     }
 
-    /// The library's own verdict on the machine.
+    /// The bytes of all frames, one frame after the other.
     #[must_use]
-    pub fn is_sound(&self) -> bool {
-        self.lent.sound() == 0
+    pub fn frames(&self) -> &[u8] {
+        &self.lent.frames
     }
 
-    /// The answer to a call of the set, or nothing where the call is not in it yet.
-    pub fn answer(&mut self, call: &MachineCall) -> Option<Answer> {
-        let answer = match call {
-            MachineCall::File { readable, bytes } => self.file(*readable, bytes).map(Answer::count),
-            MachineCall::Start { frames } => self.start(*frames).map(|()| Answer::done()),
-            MachineCall::Open { start, size } => self.open(*start, *size).map(Answer::count),
-            MachineCall::Close { p } => self.close(*p).map(|()| Answer::done()),
-            MachineCall::Create(create) => self.create(create).map(Answer::hex),
-            MachineCall::Region { p, addr } => self.region(*p, *addr).map(Answer::hex),
-            MachineCall::Regions { p } => self.regions(*p).map(|starts| Answer::list(starts, 1)),
+    /// The answer to any call; the state is told of a machine that the library calls sound.
+    pub fn answer(&mut self, call: &MachineCall) -> Answer {
+        let done = |()| Answer::done();
+        let listed = |starts| Answer::list(starts, 1);
+        let answer = match *call {
+            MachineCall::File {
+                readable,
+                ref bytes,
+            } => self.file(readable, bytes).map(Answer::count),
+            MachineCall::Start { frames } => self.start(frames).map(done),
+            MachineCall::Open { start, size } => self.open(start, size).map(Answer::count),
+            MachineCall::Close { p } => self.close(p).map(done),
+            MachineCall::Create(ref create) => self.create(create).map(Answer::hex),
+            MachineCall::Remove { p, addr } => self.remove(p, addr).map(done),
+            MachineCall::Clear { p } => self.clear(p).map(done),
+            MachineCall::Carve { p, start, end } => self.carve(p, start, end).map(listed),
             MachineCall::Covers { p, start, end } => {
-                self.covers(*p, *start, *end).map(Answer::verdict)
+                self.covers(p, start, end).map(Answer::verdict)
             }
+            MachineCall::Region { p, addr } => self.region(p, addr).map(Answer::hex),
+            MachineCall::Regions { p } => self.regions(p).map(listed),
+            MachineCall::Fault { p, addr, write } => self.fault(p, addr, write).map(done),
+            MachineCall::Populate {
+                p,
+                addr,
+                len,
+                write,
+            } => self.populate(p, addr, len, write).map(done),
+            MachineCall::Eager { p } => self.eager(p).map(done),
+            MachineCall::CloneRegion { p, addr, target } => {
+                self.clone_region(p, addr, target).map(done)
+            }
+            MachineCall::Clone { p, target } => self.clone_process(p, target).map(done),
+            MachineCall::Protect { p, addr, flags } => self.protect(p, addr, flags).map(done),
+            MachineCall::Pin { p, addr } => self.pin(p, addr).map(done),
+            MachineCall::Unpin { p, addr } => self.unpin(p, addr).map(done),
             MachineCall::Load { p, addr } => {
-                self.load(*p, *addr).map(|byte| Answer::count(byte.into()))
+                self.load(p, addr).map(|byte| Answer::count(byte.into()))
             }
-            MachineCall::Store { p, addr, byte } => {
-                self.store(*p, *addr, *byte).map(|()| Answer::done())
-            }
-            MachineCall::State => Ok(match self.snapshot(true) {
+            MachineCall::Store { p, addr, byte } => self.store(p, addr, byte).map(done),
+            MachineCall::State => self.none(call).map(|()| match self.snapshot(true) {
                 Ok(state) => Answer::State(state.to_string()),
                 Err(what) => Answer::Broken(what),
             }),
-            _ => return None,
         };
         let breach = self.breach.take();
-        Some(breach.map_or_else(
+        breach.map_or_else(
             || answer.into(),
             |what| Answer::Broken(format!("the library: {what}")),
-        ))
-    }
-
-    /// Takes over a machine's words and frames; the files stay.
-    pub fn adopt(&mut self, words: &Words, frames: Vec<u8>) {
-        self.lent.words.copy_from_slice(words);
-        self.lent.frames = frames;
-    }
-
-    /// The rows of the lent files.
-    #[must_use]
-    pub fn files(&self) -> &[File] {
-        &self.files
+        )
     }
 
     fn one(&mut self, call: &MachineCall) -> Result<u64, Refusal> {
-        let mut out = [u64::MAX; RESULTS];
+        let mut out = [u64::MAX];
         self.settle(call, &mut out)?;
         Ok(out[0])
     }
@@ -217,21 +296,51 @@ impl ProvedMachine {
         self.settle(call, &mut [])
     }
 
-    /// Asks the library, and notes where it breaks its contract: a refusal gives zeros and changes
-    /// nothing.
+    fn list(&mut self, call: &MachineCall) -> Result<Vec<u64>, Refusal> {
+        let mut out = [u64::MAX; LIST];
+        self.settle(call, &mut out)?;
+        let [count, starts @ ..] = &out;
+        let count = usize::try_from(*count).unwrap_or(LIST).min(starts.len());
+        let (starts, rest) = starts.split_at(count);
+        if rest.iter().any(|word| *word != 0) {
+            self.breach = Some("a result that has no meaning is not 0");
+        }
+        Ok(starts.to_vec())
+    }
+
+    /// Asks the library, and notes where it breaks its contract: a look-up changes nothing, and a
+    /// refusal gives zeros and changes nothing that it may not.
     fn settle(&mut self, call: &MachineCall, out: &mut [u64]) -> Result<(), Refusal> {
-        let before = self.lent.clone();
-        let number = self.lent.ask(call, out).unwrap_or_default();
+        self.before.clone_from(&self.lent);
+        let number = self.ask(call, out);
+        if (looks(call) || number != 0) && !keeps(call, number) && self.lent != self.before {
+            self.breach = Some("a look-up or a refusal changed the machine");
+        }
         if number == 0 {
             return Ok(());
-        }
-        if self.lent != before {
-            self.breach = Some("a refusal changed the machine");
         }
         if out.iter().any(|word| *word != 0) {
             self.breach = Some("a refusal's results are not 0");
         }
         Err(self.refusal(number))
+    }
+
+    /// Asks by the call's own function and by its number in turn.
+    fn ask(&mut self, call: &MachineCall, out: &mut [u64]) -> u64 {
+        self.asked += 1;
+        let rows = self.files.iter().flat_map(|row| <[u64; 3]>::from(*row));
+        let rows: Vec<u64> = rows.collect();
+        if self.asked % 2 == 1 {
+            return self.lent.ask(call, &rows, out);
+        }
+        let mut all = [u64::MAX; LIST];
+        let number = self.lent.ask_number(&numbered(call, &rows), &mut all);
+        let (results, rest) = all.split_at(out.len());
+        if rest.iter().any(|word| *word != 0) {
+            self.breach = Some("a result that has no meaning is not 0");
+        }
+        out.copy_from_slice(results);
+        number
     }
 
     /// The refusal of this number; an unknown one is noted.
@@ -241,4 +350,30 @@ impl ProvedMachine {
             Refusal::BadTable
         })
     }
+}
+
+/// Whether a call only looks.
+fn looks(call: &MachineCall) -> bool {
+    matches!(
+        call,
+        MachineCall::Covers { .. }
+            | MachineCall::Region { .. }
+            | MachineCall::Regions { .. }
+            | MachineCall::Load { .. }
+            | MachineCall::State
+    )
+}
+
+/// Whether a call may keep what it did before this refusal (RULES O3): those of its arguments come
+/// before it does anything.
+#[must_use]
+pub fn keeps(call: &MachineCall, number: u64) -> bool {
+    let step_by_step = matches!(
+        call,
+        MachineCall::Carve { .. }
+            | MachineCall::Populate { .. }
+            | MachineCall::Eager { .. }
+            | MachineCall::Clone { .. }
+    );
+    step_by_step && number > u64::from(Refusal::NoRegion.number())
 }

@@ -3,12 +3,18 @@
 
 #[cfg(proved_machine_calls)]
 mod calls;
+#[cfg(proved_machine_calls)]
+mod exports;
 mod lent;
 #[cfg(proved_machine_calls)]
 mod machine;
+#[cfg(proved_machine_calls)]
+mod numbers;
 
 #[cfg(proved_machine_calls)]
-pub use calls::{LIST, RESULTS};
+pub use calls::{LIST, results};
 pub use lent::Lent;
 #[cfg(proved_machine_calls)]
-pub use machine::ProvedMachine;
+pub use machine::{ProvedMachine, keeps};
+#[cfg(proved_machine_calls)]
+pub use numbers::numbered;

@@ -1,8 +1,10 @@
 //! Random calls of the machine: sequences, each from an empty machine, that stay near the regions
 //! that there are.
 
-mod set;
+mod first;
 mod values;
+
+use std::collections::VecDeque;
 
 use crate::calls::{Create, Kind, MachineCall, Marks};
 use crate::machine::PROCESSES;
@@ -35,6 +37,10 @@ const LARGE_SIZES: [u64; 8] = [
     HALF - PAGE,
     HALF,
 ];
+/// Numbers that covers takes as well as any others.
+const FAR: [u64; 6] = [0, 1, HALF - 1, HALF, 0xffff_8000_0000_0000, u64::MAX];
+/// Where there is room for everything.
+const WIDE_ARENA: (u64, u64) = (0x1000, 0x20_0000);
 const ARENAS: [(u64, u64); 6] = [
     (0x1000, 0x10_0000),
     (0x1000, 0x10_0000),
@@ -43,6 +49,8 @@ const ARENAS: [(u64, u64); 6] = [
     (0, HALF),
     (0x5000, 0),
 ];
+
+const TOO_MANY: MachineCall = MachineCall::Start { frames: 257 };
 
 /// What a sequence is after.
 #[derive(Clone, Copy, PartialEq)]
@@ -55,19 +63,35 @@ enum Mood {
     Crowded,
     /// Large regions and many frames, until pages and entries run out.
     Wide,
+    /// A process has hardly a page left to map.
+    FewPages,
+    /// The machine has hardly a page entry left.
+    FewEntries,
+    /// A range with two holders, shadowed in part.
+    Shadowed,
     /// Bad forms at every turn, to see what the Rust does with them.
     Wild,
+}
+
+impl Mood {
+    /// Whether most regions allow all, so that tables stay full and ranges shadowed.
+    fn is_easy(self) -> bool {
+        matches!(
+            self,
+            Self::Wide | Self::FewPages | Self::FewEntries | Self::Shadowed
+        )
+    }
 }
 
 pub struct MachineScript {
     random: Random,
     model: PlainMachine,
     wild: bool,
-    /// The calls of the proved machine alone.
-    set: bool,
     mood: Mood,
     arena: (u64, u64),
     frames: u64,
+    /// Calls that come before all others.
+    first: VecDeque<MachineCall>,
     left: u64,
 }
 
@@ -82,10 +106,10 @@ impl MachineScript {
             random: Random::new(seed),
             model,
             wild: false,
-            set: false,
             mood: Mood::Mixed,
             arena: ARENAS[0],
             frames: 0,
+            first: VecDeque::new(),
             left: 0,
         }
     }
@@ -95,15 +119,6 @@ impl MachineScript {
     pub fn wild(seed: u64) -> Self {
         Self {
             wild: true,
-            ..Self::new(seed)
-        }
-    }
-
-    /// Sequences of the calls that the proved machine answers.
-    #[must_use]
-    pub fn of_set(seed: u64) -> Self {
-        Self {
-            set: true,
             ..Self::new(seed)
         }
     }
@@ -135,7 +150,8 @@ impl MachineScript {
         let call = if self.left == 0 {
             self.begin()
         } else {
-            self.draw()
+            let first = self.first.pop_front();
+            first.unwrap_or_else(|| self.draw())
         };
         self.left = self.left.saturating_sub(1);
         self.model.answer(&call);
@@ -145,38 +161,45 @@ impl MachineScript {
     fn begin(&mut self) -> MachineCall {
         let moods = [
             Mood::Mixed,
+            Mood::Mixed,
             Mood::Clean,
             Mood::Clean,
             Mood::Clean,
             Mood::Crowded,
             Mood::Wide,
+            Mood::FewPages,
+            Mood::FewEntries,
+            Mood::Shadowed,
         ];
         self.mood = if self.wild {
             Mood::Wild
         } else {
             self.random.pick(&moods)
         };
-        if self.set && self.mood == Mood::Wide {
-            self.mood = Mood::Mixed;
-        }
-        let full = matches!(self.mood, Mood::Crowded | Mood::Wide);
-        self.arena = if full {
-            ARENAS[0]
-        } else {
-            self.random.pick(&ARENAS)
+        self.arena = match self.mood {
+            Mood::Mixed | Mood::Clean | Mood::Wild => self.random.pick(&ARENAS),
+            _ => WIDE_ARENA,
         };
-        self.left = 2 + self.random.below(LONGEST);
+        self.first = self.first_calls().into();
+        self.left = 2 + self.first.len() as u64 + self.random.below(LONGEST);
+        let start = self.start();
+        if start == TOO_MANY {
+            // nothing is started: nothing more can be asked
+            self.left = 1;
+        }
+        start
+    }
+
+    fn start(&mut self) -> MachineCall {
+        if !self.wild && self.bad() {
+            return TOO_MANY;
+        }
         let frames = match self.mood {
-            Mood::Wide => 256,
-            Mood::Crowded => 16,
-            _ => self
+            Mood::Wide | Mood::FewPages | Mood::FewEntries => 256,
+            Mood::Crowded | Mood::Shadowed => self.random.pick(&[12, 16, 24]),
+            Mood::Mixed | Mood::Clean | Mood::Wild => self
                 .random
                 .pick(&[0, 1, 2, 3, 4, 6, 8, 12, 16, 24, 64, 256]),
-        };
-        let frames = if !self.wild && self.bad() {
-            257
-        } else {
-            frames
         };
         self.frames = frames;
         MachineCall::Start { frames }
@@ -187,18 +210,18 @@ impl MachineScript {
             .filter(|p| self.model.open_process(*p).is_some())
             .count();
         let few = match self.mood {
-            Mood::Wide => 8,
+            Mood::Wide | Mood::FewEntries => 8,
             Mood::Crowded => 1,
-            Mood::Mixed | Mood::Clean | Mood::Wild => 2,
+            _ => 2,
         };
         if open == 0 || (open < few && self.random.once_in(8)) || self.random.once_in(90) {
             return self.open();
         }
         let p = self.process();
         match self.mood {
-            _ if self.set => self.set_call(p),
-            Mood::Crowded if !self.random.once_in(3) => self.create(p),
+            Mood::Crowded if self.random.once_in(3) => self.create(p),
             Mood::Wide if !self.random.once_in(3) => self.wide_call(p),
+            Mood::Crowded if self.random.once_in(2) => self.list_call(p),
             _ if self.random.once_in(4) => self.list_call(p),
             _ => self.page_call(p),
         }
@@ -235,8 +258,8 @@ impl MachineScript {
     /// A call about pages and their bytes.
     fn page_call(&mut self, p: u64) -> MachineCall {
         match self.random.below(64) {
-            0..14 => self.create(p),
-            14..28 => MachineCall::Fault {
+            0..12 => self.create(p),
+            12..28 => MachineCall::Fault {
                 p,
                 addr: self.address(p),
                 write: self.write(),
@@ -268,35 +291,47 @@ impl MachineScript {
         }
     }
 
-    /// A call about the list of regions.
+    /// A call about the list of regions, or about all of it.
     fn list_call(&mut self, p: u64) -> MachineCall {
-        match self.random.below(32) {
-            0..10 => self.carve(p),
-            10..14 => MachineCall::Remove {
+        match self.random.below(80) {
+            0..20 => self.carve(p),
+            20..28 => MachineCall::Remove {
                 p,
                 addr: self.address(p),
             },
-            14..19 => MachineCall::Pin {
+            28..38 => MachineCall::Pin {
                 p,
                 addr: self.address(p),
             },
-            19..24 => MachineCall::Unpin {
+            38..50 => MachineCall::Unpin {
                 p,
                 addr: self.pinned(p),
             },
-            24..27 => {
-                let (start, end) = (self.address(p), self.address(p));
-                MachineCall::Covers { p, start, end }
-            }
-            27 => MachineCall::Region {
+            50..58 => self.covers(p),
+            58..64 => MachineCall::Region {
                 p,
                 addr: self.address(p),
             },
-            28 => MachineCall::Regions { p },
-            29 => MachineCall::State,
-            30 => MachineCall::Close { p },
-            _ => MachineCall::Clear { p },
+            64..71 => MachineCall::Regions { p },
+            71..74 => MachineCall::State,
+            74..77 => MachineCall::Close { p },
+            77..79 => MachineCall::Clear { p },
+            _ if self.mood == Mood::Mixed && self.random.once_in(2) => TOO_MANY,
+            _ => self.start(),
         }
+    }
+
+    fn covers(&mut self, p: u64) -> MachineCall {
+        let mut bound = || {
+            let far = self.random.once_in(12);
+            if far {
+                self.random.pick(&FAR)
+            } else {
+                self.address(p)
+            }
+        };
+        let (start, end) = (bound(), bound());
+        MachineCall::Covers { p, start, end }
     }
 
     fn open(&mut self) -> MachineCall {
@@ -318,15 +353,12 @@ impl MachineScript {
     }
 
     fn create(&mut self, p: u64) -> MachineCall {
-        let size = self.size();
-        let marks = Marks {
-            flags: self.flags(),
-            copy: self
-                .random
-                .once_in(if self.mood == Mood::Wide { 10 } else { 3 }),
-            thread: self.random.once_in(6),
-        };
+        let run = self.random.once_in(8);
+        let size = if run { self.run_size() } else { self.size() };
+        let marks = self.marks();
         let kind = match self.random.below(10) {
+            0..5 if run => Kind::Eager(marks),
+            _ if run => Kind::Shared,
             _ if self.mood == Mood::Wide && !self.random.once_in(6) => Kind::Lazy(marks),
             0..5 => Kind::Lazy(marks),
             5..7 => Kind::Eager(marks),
@@ -346,6 +378,16 @@ impl MachineScript {
         })
     }
 
+    fn marks(&mut self) -> Marks {
+        Marks {
+            flags: self.flags(),
+            copy: self
+                .random
+                .once_in(if self.mood == Mood::Wide { 10 } else { 3 }),
+            thread: self.random.once_in(6),
+        }
+    }
+
     fn populate(&mut self, p: u64) -> MachineCall {
         let addr = self.address(p);
         let len = match self.random.below(12) {
@@ -354,6 +396,7 @@ impl MachineScript {
             2 if self.bad_sum() => u64::MAX - addr,
             3 => self.random.pick(&[u64::MAX, HALF, HALF + 1]),
             4 => self.random.pick(&LARGE_SIZES),
+            5..8 => self.random.below(24) * PAGE,
             _ => self.random.pick(&SIZES),
         };
         MachineCall::Populate {

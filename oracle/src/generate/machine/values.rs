@@ -25,6 +25,14 @@ impl MachineScript {
         }
     }
 
+    /// About as many pages as there are frames, or a few.
+    pub(super) fn run_size(&mut self) -> u64 {
+        let frames = self.frames;
+        let pages = [1, 2, 3, frames / 3, frames / 2, frames, frames + 1];
+        let pages = self.random.pick(&pages).max(1);
+        pages * PAGE - self.random.pick(&[0, 0, 1, PAGE - 1])
+    }
+
     pub(super) fn part(&mut self, size: u64) -> Part {
         let offset = self
             .random
@@ -69,7 +77,8 @@ impl MachineScript {
     }
 
     pub(super) fn process(&mut self) -> u64 {
-        if self.bad() {
+        let none = self.mood == Mood::Mixed && self.random.once_in(60);
+        if none || self.bad() {
             return self.random.pick(&[7, 8, u64::MAX]);
         }
         let open = (0..PROCESSES).filter(|p| self.model.open_process(*p).is_some());
@@ -88,7 +97,7 @@ impl MachineScript {
         if self.bad() {
             return self.random.pick(&BAD_FLAGS);
         }
-        let easy = self.mood == Mood::Wide && !self.random.once_in(8);
+        let easy = self.mood.is_easy() && !self.random.once_in(8);
         if easy { 7 } else { self.random.pick(&FLAGS) }
     }
 
@@ -173,9 +182,9 @@ impl MachineScript {
     /// Whether to draw an argument of bad form.
     pub(super) fn bad(&mut self) -> bool {
         match self.mood {
-            Mood::Mixed => self.random.once_in(150),
+            Mood::Mixed => self.random.once_in(80),
             Mood::Wild => self.random.once_in(6),
-            Mood::Clean | Mood::Crowded | Mood::Wide => false,
+            _ => false,
         }
     }
 }
