@@ -1,5 +1,5 @@
 //! Nanoseconds to zero and to copy a frame of 4,096 bytes: the proved functions beside memset and memcpy, in one run.
-//! Fails where a proved function takes more than 1.5 times as long, or leaves other bytes than it should.
+//! Fails where a proved function takes more than twice as long, or leaves other bytes than it should.
 
 use std::hint::black_box;
 use std::process::ExitCode;
@@ -8,7 +8,7 @@ use std::time::Instant;
 const FRAME: usize = 4096;
 const ROUNDS: usize = 101;
 const CALLS: usize = 5_000;
-const MOST: f64 = 1.5;
+const MOST: f64 = 2.0;
 
 // The proved functions take a slice as its address and its length.
 unsafe extern "C" {

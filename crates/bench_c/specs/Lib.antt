@@ -5,3 +5,4 @@ pub mod FramesOn
 pub mod FramesOnLaws
 pub mod LookupsOn
 pub mod LookupsOnLaws
+pub mod StepsLaws

@@ -2,3 +2,4 @@
 pub mod copies;
 pub mod loads;
 pub mod lookups;
+pub mod steps;

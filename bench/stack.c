@@ -1,0 +1,242 @@
+/* How many bytes of stack each export of the machine's library uses: every call runs on a painted stack of its own, and what is
+ * painted over counts, from the caller's frame down. Prints a line an export, the most that any run took; exits 1 where one is above
+ * LIMIT, and 2 where no run of an export did what it is asked to do.
+ *
+ * To add an export: a function that calls it, and a line of `exports`. */
+#define _XOPEN_SOURCE 700
+#include <stdio.h>
+#include <stdlib.h>
+#include <string.h>
+#include <ucontext.h>
+
+#include "machine.h"
+
+enum { LIMIT = 2048, STACK = 1 << 18, PAINT = 0xa5 };
+
+/* The machine's tables among its words: where they begin, and the words of a row. */
+enum { SLOTS_AT = 40, ORDER_AT = 6184, MAPPED_AT = 6696, ENTRIES_AT = 9768, BACKINGS_AT = 11304, POOL_AT = 11816, FILES_AT = 11818, FRAME_COUNT = 11842, FILE_COUNT = 11843 };
+enum { PROCESS_WORDS = 5, SLOT_WORDS = 12, ROW_WORDS = 3, BACKING_WORDS = 2 };
+enum { SLOTS = 64, MAPPED = 128, FRAMES = 256, PAGE = 4096, PAGES = 4, FILE_BYTES = 3 * PAGE };
+
+#define BASE 0x100000ull
+#define ARENA (1ull << 40)
+
+struct machine {
+    uint64_t words[MACHINE_WORDS];
+    uint8_t frames[FRAMES * MACHINE_FRAME];
+    uint8_t files[FILE_BYTES];
+};
+
+/* How full a machine is. */
+struct fill {
+    const char *name;
+    unsigned processes, regions, pages;
+};
+
+/* A full machine refuses to make anything; the others have room. */
+static const struct fill fills[] = {
+    { "empty", 1, 0, 0 },
+    { "one process", 1, 62, 3 },
+    { "room", 2, 60, 3 },
+    { "full", 2, 64, 4 },
+};
+enum { FILLS = sizeof fills / sizeof *fills };
+
+static struct machine built[FILLS], tried;
+static uint64_t out[MACHINE_REGIONS];
+
+/* The page that region `slot` of a process has in place k: lower slots lie higher, so that no list rises. */
+static uint64_t page_of(const struct fill *f, unsigned slot, unsigned k) {
+    return BASE / PAGE + (uint64_t)(f->regions - 1 - slot) * (PAGES + 1) + k;
+}
+
+/* Processes with the same regions and pages, as after a fork: each frame has as many holders as there are processes. The entries stand
+ * in falling order, so that the soundness test sorts them, and the lists of regions are in the order of slots, which fall too. */
+static void build(struct machine *m, const struct fill *f) {
+    memset(m, 0, sizeof *m);
+    uint64_t *w = m->words;
+    unsigned frames = f->regions * f->pages, entries = frames * f->processes;
+    for (unsigned p = 0; p < f->processes; p++) {
+        unsigned mapped = frames < MAPPED ? frames : MAPPED;
+        uint64_t process[PROCESS_WORDS] = { 1, 0, ARENA, f->regions, mapped };
+        memcpy(w + p * PROCESS_WORDS, process, sizeof process);
+        for (unsigned slot = 0; slot < f->regions; slot++) {
+            unsigned row = p * SLOTS + slot;
+            uint64_t region[4] = { 1, page_of(f, slot, 0) * PAGE, PAGES * PAGE, 7 };
+            memcpy(w + SLOTS_AT + row * SLOT_WORDS, region, sizeof region);
+            w[ORDER_AT + row] = slot;
+            for (unsigned k = 0; k < f->pages; k++) {
+                uint64_t frame = slot * f->pages + k, page = page_of(f, slot, k);
+                uint64_t entry[ROW_WORDS] = { row + 1, page, frame };
+                memcpy(w + ENTRIES_AT + (entries - 1 - (p * frames + frame)) * ROW_WORDS, entry, sizeof entry);
+                uint64_t backing[BACKING_WORDS] = { 1, f->processes };
+                memcpy(w + BACKINGS_AT + frame * BACKING_WORDS, backing, sizeof backing);
+                /* The lowest pages are mapped, in page order. */
+                unsigned place = (f->regions - 1 - slot) * f->pages + k;
+                uint64_t mapping[ROW_WORDS] = { page, frame, f->processes == 1 ? 7 : 5 };
+                if (place < mapped) memcpy(w + MAPPED_AT + (p * MAPPED + place) * ROW_WORDS, mapping, sizeof mapping);
+            }
+        }
+    }
+    uint64_t file[ROW_WORDS] = { 1, 0, FILE_BYTES };
+    memcpy(w + FILES_AT, file, sizeof file);
+    w[POOL_AT] = FRAMES - frames;
+    w[POOL_AT + 1] = frames;
+    w[FRAME_COUNT] = FRAMES;
+    w[FILE_COUNT] = 1;
+}
+
+#define LENT(m) (m)->words, MACHINE_WORDS, (m)->frames, sizeof (m)->frames, (m)->files, sizeof (m)->files
+
+/* Addresses to ask for: the lowest region, the highest, one past all. */
+static uint64_t place(unsigned k) { return (k == 0 ? BASE : k == 1 ? BASE + (SLOTS - 3) * (PAGES + 1) * PAGE : ARENA - PAGE) + 1; }
+
+/* ---- one function an export: a call on a machine, in variation k */
+
+static uint64_t nothing(struct machine *m, unsigned k) { return m->words[0] + k == ~0ull; }
+
+static uint64_t sound(struct machine *m, unsigned k) { (void)k; return machine_sound(LENT(m)); }
+
+static uint64_t start(struct machine *m, unsigned k) {
+    static const uint64_t rows[ROW_WORDS] = { 1, 0, FILE_BYTES };
+    (void)k;
+    return machine_start(LENT(m), rows, ROW_WORDS);
+}
+
+static uint64_t open(struct machine *m, unsigned k) { (void)k; return machine_open(LENT(m), BASE, ARENA, out, 1); }
+
+static uint64_t close(struct machine *m, unsigned k) { (void)k; return machine_close(LENT(m), 0); }
+
+static uint64_t create_private(struct machine *m, unsigned k) { return machine_create_private(LENT(m), 0, k == 2, ARENA / 2, 3 * PAGE, 7, 0, 0, k == 1, out, 1); }
+
+static uint64_t create_file(struct machine *m, unsigned k) { return machine_create_file(LENT(m), 0, k == 2, ARENA / 2, 3 * PAGE, 7, 0, 0, 0, 0, FILE_BYTES, out, 1); }
+
+static uint64_t create_shared(struct machine *m, unsigned k) { return machine_create_shared(LENT(m), 0, k == 2, ARENA / 2, 3 * PAGE, out, 1); }
+
+static uint64_t region(struct machine *m, unsigned k) { return machine_region(LENT(m), 0, place(k), out, 1); }
+
+static uint64_t regions(struct machine *m, unsigned k) { (void)k; return machine_regions(LENT(m), 0, out, MACHINE_REGIONS); }
+
+static uint64_t covers(struct machine *m, unsigned k) { return machine_covers(LENT(m), 0, place(k), place(k) + PAGE, out, 1); }
+
+static uint64_t load(struct machine *m, unsigned k) { return machine_load(LENT(m), 0, place(k), out, 1); }
+
+static uint64_t store(struct machine *m, unsigned k) { return machine_store(LENT(m), 0, place(k), 7); }
+
+static uint64_t removal(struct machine *m, unsigned k) { return machine_remove(LENT(m), 0, place(k)); }
+
+static uint64_t clear(struct machine *m, unsigned k) { (void)k; return machine_clear(LENT(m), 0); }
+
+static uint64_t protect(struct machine *m, unsigned k) { return machine_protect(LENT(m), 0, place(k), 5); }
+
+static uint64_t pin(struct machine *m, unsigned k) { return machine_pin(LENT(m), 0, place(k)); }
+
+static uint64_t unpin(struct machine *m, unsigned k) { return machine_pin(LENT(m), 0, place(k)) + machine_unpin(LENT(m), 0, place(k)); }
+
+/* The bounds cut a region at its second page. */
+static uint64_t carve(struct machine *m, unsigned k) { return machine_carve(LENT(m), 0, BASE + PAGE, BASE + (2 + k) * PAGE, out, MACHINE_REGIONS); }
+
+static uint64_t fault(struct machine *m, unsigned k) { return machine_fault(LENT(m), 0, place(k), k != 2); }
+
+static uint64_t populate(struct machine *m, unsigned k) { return machine_populate(LENT(m), 0, place(k), 8 * PAGE, k == 1); }
+
+static uint64_t eager(struct machine *m, unsigned k) { (void)k; return machine_eager(LENT(m), 0); }
+
+/* The target is opened first; the stack of both counts. */
+static uint64_t clone_region(struct machine *m, unsigned k) { return machine_open(LENT(m), BASE, ARENA, out, 1) + machine_clone_region(LENT(m), 0, place(k), out[0]); }
+
+static uint64_t clone(struct machine *m, unsigned k) { (void)k; return machine_open(LENT(m), BASE, ARENA, out, 1) + machine_clone(LENT(m), 0, out[0]); }
+
+/* By number: a fault, a carve, eager populate. */
+static uint64_t by_number(struct machine *m, unsigned k) {
+    const uint64_t asked[][4] = { { MACHINE_CALL_FAULT, 0, place(0), 1 }, { MACHINE_CALL_CARVE, 0, BASE + PAGE, BASE + 2 * PAGE }, { MACHINE_CALL_EAGER, 0 } };
+    return machine_call(LENT(m), asked[k], k == 2 ? 2 : 4, out, MACHINE_REGIONS);
+}
+
+static const struct export {
+    const char *name;
+    uint64_t (*run)(struct machine *, unsigned);
+} exports[] = {
+    { "machine_sound", sound },
+    { "machine_start", start },
+    { "machine_open", open },
+    { "machine_close", close },
+    { "machine_create_private", create_private },
+    { "machine_create_file", create_file },
+    { "machine_create_shared", create_shared },
+    { "machine_region", region },
+    { "machine_regions", regions },
+    { "machine_covers", covers },
+    { "machine_load", load },
+    { "machine_store", store },
+    { "machine_remove", removal },
+    { "machine_clear", clear },
+    { "machine_protect", protect },
+    { "machine_pin", pin },
+    { "machine_unpin", unpin },
+    { "machine_carve", carve },
+    { "machine_fault", fault },
+    { "machine_populate", populate },
+    { "machine_eager", eager },
+    { "machine_clone_region", clone_region },
+    { "machine_clone", clone },
+    { "machine_call", by_number },
+};
+enum { EXPORTS = sizeof exports / sizeof *exports, VARIATIONS = 3 };
+
+/* ---- the painted stack */
+
+static unsigned char stack[STACK] __attribute__((aligned(64)));
+static ucontext_t here, there;
+static uint64_t (*running)(struct machine *, unsigned);
+static unsigned variation;
+static uint64_t answer;
+
+static void entry(void) { answer = running(&tried, variation); }
+
+/* The bytes painted over by one call. */
+static size_t painted(uint64_t (*run)(struct machine *, unsigned), unsigned k) {
+    memset(stack, PAINT, sizeof stack);
+    running = run;
+    variation = k;
+    if (getcontext(&there) != 0) exit(2);
+    there.uc_stack.ss_sp = stack;
+    there.uc_stack.ss_size = sizeof stack;
+    there.uc_link = &here;
+    makecontext(&there, entry, 0);
+    if (swapcontext(&here, &there) != 0) exit(2);
+    size_t low = 0;
+    while (low < sizeof stack && stack[low] == PAINT) low++;
+    return sizeof stack - low;
+}
+
+int main(void) {
+    int status = 0;
+    for (unsigned i = 0; i < FILLS; i++) {
+        build(&built[i], &fills[i]);
+        if (machine_sound(LENT(&built[i])) != 0) {
+            fprintf(stderr, "stack: the machine '%s' is not sound\n", fills[i].name);
+            return 2;
+        }
+    }
+    tried = built[0];
+    size_t base = painted(nothing, 0);
+    for (unsigned e = 0; e < EXPORTS; e++) {
+        size_t most = 0;
+        unsigned done = 0;
+        for (unsigned i = 0; i < FILLS; i++)
+            for (unsigned k = 0; k < VARIATIONS; k++) {
+                tried = built[i];
+                size_t used = painted(exports[e].run, k) - base;
+                if (used > most) most = used;
+                done += answer == 0;
+            }
+        printf("%-24s %6zu%s\n", exports[e].name, most, most > LIMIT ? "  above the limit" : "");
+        if (most > LIMIT && status == 0) status = 1;
+        if (done == 0) {
+            fprintf(stderr, "stack: no run of %s did it\n", exports[e].name);
+            status = 2;
+        }
+    }
+    return status;
+}
