@@ -1,4 +1,4 @@
--- Any call, by one function: what it answers and leaves of the lent memory, the memory for starts among it.
+-- Any call, by one function: what it answers and leaves of the lent memory, the memory for starts among it (RULES D1, E1, O1, O2).
 use mathlib.Core.Path.{_≡_}
 use mathlib.Core.Bool.{Bool, false, cond}
 use mathlib.Core.List.{List}

@@ -1,4 +1,4 @@
--- What the core of carve needs, and what it leaves and answers.
+-- What the core of carve needs, and what it leaves and answers (RULES V1 to V4).
 use mathlib.Core.Path.{_≡_}
 use mathlib.Core.List.{List}
 use Prim.Native.Nat.{ℕ, _-_, _%_, _<_}

@@ -1,4 +1,4 @@
--- The walk over the regions that are taken out.
+-- The walk over the regions that are taken out (RULES V3).
 use mathlib.Core.Path.{_≡_}
 use mathlib.Core.Bool.{Bool, true, false}
 use mathlib.Core.List.{List}

@@ -1,4 +1,4 @@
--- A region against a range, test by test, with no sum that could be too large.
+-- A region against a range, test by test, with no sum that could be too large (RULES V2, V4).
 use mathlib.Core.Bool.{Bool, _&&_, not}
 use Prim.Native.Nat.{ℕ, _-_}
 use Rattle.model.specs.declared.Region.{Region}

@@ -1,4 +1,4 @@
--- The slots that stay in list order where a range cuts regions.
+-- The slots that stay in list order where a range cuts regions (RULES V2).
 use mathlib.Core.Bool.{Bool, not}
 use Prim.Native.Nat.{ℕ}
 use Rattle.model.specs.Machine.{Machine}

@@ -1,4 +1,4 @@
--- A region's clone that copies: from what the parts leave to the model's copyInto.
+-- A region's clone that copies: from what the parts leave to the model's copyInto (RULES K1, K3).
 use mathlib.Core.Path.{_≡_}
 use mathlib.Core.Logic.{_≢_}
 use mathlib.Core.List.{List, _++_}

@@ -1,4 +1,4 @@
--- One page copied into the lowest free frame, and what is left for the next.
+-- One page copied into the lowest free frame, and what is left for the next (RULES K3).
 use mathlib.Core.Path.{_≡_}
 use mathlib.Core.Bool.{cond}
 use mathlib.Core.List.{List}

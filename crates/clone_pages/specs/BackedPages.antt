@@ -1,4 +1,4 @@
--- How many pages of a region are backed by entries, and how many by its range alone.
+-- How many pages of a region are backed by entries, and how many by its range alone (RULES K2, K3).
 use mathlib.Core.Bool.{Bool, not, cond}
 use mathlib.Core.List.{List, map}
 use Prim.Native.Nat.{ℕ, _+_, _/_}

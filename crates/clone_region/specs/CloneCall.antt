@@ -1,4 +1,4 @@
--- The region that a call clones, or its refusal.
+-- The region that a call clones, or its refusal (RULES K1 to K3).
 use mathlib.Core.List.{List}
 use Prim.Native.Nat.{ℕ}
 use Rattle.model.specs.Answers.{firstOf}

@@ -1,4 +1,4 @@
--- The refusals of cloning a region, or the free slot that the clone goes into.
+-- The refusals of cloning a region, or the free slot that the clone goes into (RULES O5).
 use Prim.Native.Nat.{ℕ}
 use Rattle.model.specs.declared.Done.{Done}
 use Rattle.model.specs.declared.Done.the-variants.{Yes, No}

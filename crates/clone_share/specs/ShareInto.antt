@@ -1,4 +1,4 @@
--- A region's clone that shares: from what the parts leave to the model's shareInto.
+-- A region's clone that shares: from what the parts leave to the model's shareInto (RULES K1, K2).
 use mathlib.Core.Path.{_≡_}
 use mathlib.Core.Logic.{_≢_}
 use mathlib.Core.Bool.{cond}

@@ -1,4 +1,4 @@
--- The entries of a clone, one after the other in page order.
+-- The entries of a clone, one after the other in page order (RULES K2).
 use mathlib.Core.Path.{_≡_}
 use mathlib.Core.Logic.{_≢_}
 use mathlib.Core.Bool.{true}

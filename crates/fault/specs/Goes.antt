@@ -1,4 +1,4 @@
--- What each way of a fault asks of the memory.
+-- What each way of a fault asks of the memory (RULES T1 to T11).
 use mathlib.Core.Path.{_≡_}
 use mathlib.Core.Bool.{Bool, true}
 use mathlib.Core.List.{List}

@@ -1,4 +1,4 @@
--- What a fault's way needs, test by test.
+-- What a fault's way needs, test by test (RULES E14 to E16, E21).
 use mathlib.Core.Bool.{Bool, _&&_, not}
 use Prim.Native.Nat.{ℕ}
 use Rattle.model.specs.declared.Backed.{Backed}

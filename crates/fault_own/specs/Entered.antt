@@ -1,4 +1,4 @@
--- The page entry of a page that gets another frame, whatever the rows are.
+-- The page entry of a page that gets another frame, whatever the rows are (RULES T10).
 use mathlib.Core.Path.{_≡_}
 use mathlib.Core.Bool.{true}
 use Prim.Native.Nat.{ℕ, _+_, _<_}

@@ -1,4 +1,4 @@
--- A page's own frame: what it asks of the machine, and what it leaves.
+-- A page's own frame: what it asks of the machine, and what it leaves (RULES T10).
 use mathlib.Core.Path.{_≡_}
 use mathlib.Core.Bool.{false}
 use mathlib.Core.List.{List}

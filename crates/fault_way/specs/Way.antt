@@ -1,4 +1,4 @@
--- The choice of a fault's way, case by case.
+-- The choice of a fault's way, case by case (RULES T3 to T9).
 use mathlib.Core.Bool.{cond}
 use Prim.Native.Nat.{ℕ}
 use lib.Dec.{eqb}

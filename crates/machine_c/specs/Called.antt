@@ -1,4 +1,4 @@
--- A call by its number and arguments, as words: which call it is, and what it answers and leaves.
+-- A call by its number and arguments, as words: which call it is, and what it answers and leaves (RULES E1, O1).
 use mathlib.Core.Path.{_≡_}
 use mathlib.Core.Bool.{Bool, false, cond}
 use mathlib.Core.List.{List, [], _∷_}

@@ -1,4 +1,4 @@
--- One pin less, and whether that ends the region.
+-- One pin less, and whether that ends the region (RULES M2).
 use mathlib.Core.Path.{_≡_}
 use mathlib.Core.Bool.{Bool, _&&_, not}
 use Prim.Native.Nat.{ℕ}

@@ -1,4 +1,4 @@
--- A walk over pages, step by step: what is left of it gives what the whole gives.
+-- A walk over pages, step by step: what is left of it gives what the whole gives (RULES U1).
 use mathlib.Core.Path.{_≡_}
 use mathlib.Core.Bool.{Bool, true}
 use Prim.Native.Nat.{ℕ, _-_, _<_}

@@ -1,4 +1,4 @@
--- The region that protect names, or its refusal.
+-- The region that protect names, or its refusal (RULES M1).
 use mathlib.Core.List.{List}
 use Prim.Native.Nat.{ℕ}
 use Rattle.model.specs.Answers.{firstOf}

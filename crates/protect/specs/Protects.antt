@@ -1,4 +1,4 @@
--- A region's flags replaced, and its mapped pages row by row.
+-- A region's flags replaced, and its mapped pages row by row (RULES M1).
 use mathlib.Core.Path.{_≡_}
 use mathlib.Core.Bool.{cond}
 use Prim.Native.Nat.{ℕ, _≤_}

@@ -1,4 +1,4 @@
--- A list of starts whose head is answered and which itself stands in lent memory.
+-- A list of starts whose head is answered and which itself stands in lent memory (RULES O1).
 use mathlib.Core.List.{List}
 use Prim.Native.Nat.{ℕ}
 use Rattle.model.specs.declared.Counted.{Counted}

@@ -1,4 +1,4 @@
--- A region's mapped pages without WRITABLE.
+-- A region's mapped pages without WRITABLE (RULES K2).
 use mathlib.Core.Bool.{_&&_, not, cond}
 use Rattle.address.specs.Flags.{readOnly}
 use Rattle.model.specs.declared.Mapping.{Mapping}

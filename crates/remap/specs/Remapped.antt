@@ -1,4 +1,4 @@
--- A function done to every mapped row of a process, one row after the other.
+-- A function done to every mapped row of a process, one row after the other (RULES K2, M1).
 use mathlib.Core.List.{List, _++_, map}
 use Prim.Native.Nat.{ℕ, _+_}
 use lib.ListN.{length, take, drop}

@@ -1,4 +1,4 @@
--- A region split at a bound, and at both: what the code needs, and that it leaves what the model says.
+-- A region split at a bound, and at both: what the code needs, and that it leaves what the model says (RULES V2).
 use mathlib.Core.Path.{_≡_}
 use mathlib.Core.Bool.{true}
 use Prim.Native.Nat.{ℕ, _+_, _-_, _^_, _<_}
