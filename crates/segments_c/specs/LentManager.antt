@@ -3,7 +3,7 @@ use mathlib.Core.Bool.{_&&_, cond}
 use mathlib.Core.List.{List, [], _∷_}
 use Prim.Native.Nat.{ℕ}
 use lib.Dec.{eqb}
-use lib.ListN.{length, getD, drop}
+use lib.ListN.{length}
 use Rattle.answers.specs.Number.{numberOf}
 use Rattle.segment.specs.declared.Answered.{Answered}
 use Rattle.segment.specs.declared.Answered.the-variants as answered
@@ -15,16 +15,8 @@ use Rattle.segments.specs.declared.manager.Released.the-variants as released
 use Rattle.segments.specs.declared.manager.SplitInto.{SplitInto}
 use Rattle.segments.specs.declared.manager.SplitInto.the-variants as split
 use Rattle.segment.specs.Form.{startOf}
-use Rattle.segment_search.specs.SegmentWords.{tableOf}
-use Rattle.segments.specs.Run.{numbers}
 use Rattle.segments.specs.Calls.{segment, newCall, reserveCall, markCall, releaseCall, splitCall}
-
--- words as a manager, and a manager as words
-unfoldable pub managerOf : List ℕ → VirtualMemoryManager
-managerOf w = record { «mem_start» = record { 0 = getD w 0 0 }; «mem_size» = getD w 1 0; count = getD w 2 0; segments = tableOf (drop 3 w) 64 }
-
-unfoldable pub wordsOf : VirtualMemoryManager → List ℕ
-wordsOf m = m .«mem_start» .0 ∷ m .«mem_size» ∷ m .count ∷ numbers (m .segments)
+use Rattle.segments_lent.specs.LentWords.{managerOf, wordsOf}
 
 -- the number answered, and what is left in both slices
 pub record Lent : Type 0 where

@@ -1,4 +1,3 @@
 -- What the exported calls do to lent words.
 pub mod LentManager
 pub mod LentManagerLaws
-pub mod ManagerWordsLaws

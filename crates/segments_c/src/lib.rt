@@ -13,28 +13,21 @@ use segments::Released;
 use segments::Reserved;
 use segments::Segment;
 use segments::SplitInto;
-use segments::VirtualMemoryManager;
-use words::load;
+use segments_lent::manager::mark_as_reserved;
+use segments_lent::manager::new;
+use segments_lent::manager::release;
+use segments_lent::manager::reserve_bytes;
+use segments_lent::manager::split;
 use words::put_out;
-use words::store;
 
 // A manager with no segments over an arena.
 #[no_mangle]
 pub extern "C" fn manager_new(words: &mut [u64], start: u64, size: u64) -> u64
     ensures { λ r. ⌜ lent r (now (words .exit)) [] ≡ newOn (now (words .entry)) start size ⌝ }
 {
-    if words.len() != 131 {
-        return 1;
-    }
-    let done = VirtualMemoryManager::new(VirtAddr(start), size);
-    let answer = done.answer;
-    let manager = done.manager;
-    match answer {
+    match new(words, VirtAddr(start), size) {
         Answered::Refused(why) => why.number(),
-        Answered::Done => {
-            store(words, manager);
-            0
-        }
+        Answered::Done => 0,
     }
 }
 
@@ -49,16 +42,12 @@ pub extern "C" fn manager_reserve(words: &mut [u64], len: u64, out: &mut [u64]) 
     if out.len() != 4 {
         return 1;
     }
-    let done = load(&words[..]).reserve_bytes(len);
-    let answer = done.answer;
-    let manager = done.manager;
-    match answer {
+    match reserve_bytes(words, len) {
         Reserved::Refused(why) => {
             put_out(out, 0, 0, 0, 0);
             why.number()
         }
         Reserved::At(segment, restarts) => {
-            store(words, manager);
             put_out(out, segment.start.0, restarts, 0, 0);
             0
         }
@@ -70,18 +59,13 @@ pub extern "C" fn manager_reserve(words: &mut [u64], len: u64, out: &mut [u64]) 
 pub extern "C" fn manager_mark(words: &mut [u64], start: u64, len: u64) -> u64
     ensures { λ r. ⌜ lent r (now (words .exit)) [] ≡ markOn (now (words .entry)) start len ⌝ }
 {
-    if words.len() != 131 {
-        return 1;
-    }
-    let done = load(&words[..]).mark_as_reserved(Segment::new(VirtAddr(start), len));
-    let answer = done.answer;
-    let manager = done.manager;
-    match answer {
+    let segment = Segment {
+        start: VirtAddr(start),
+        len,
+    };
+    match mark_as_reserved(words, segment) {
         Answered::Refused(why) => why.number(),
-        Answered::Done => {
-            store(words, manager);
-            0
-        }
+        Answered::Done => 0,
     }
 }
 
@@ -96,10 +80,11 @@ pub extern "C" fn manager_release(words: &mut [u64], start: u64, len: u64, out: 
     if out.len() != 4 {
         return 1;
     }
-    let done = load(&words[..]).release(Segment::new(VirtAddr(start), len));
-    let answer = done.answer;
-    let manager = done.manager;
-    match answer {
+    let segment = Segment {
+        start: VirtAddr(start),
+        len,
+    };
+    match release(words, segment) {
         Released::Refused(why) => {
             put_out(out, 0, 0, 0, 0);
             why.number()
@@ -109,7 +94,6 @@ pub extern "C" fn manager_release(words: &mut [u64], start: u64, len: u64, out: 
             0
         }
         Released::Yes => {
-            store(words, manager);
             put_out(out, 1, 0, 0, 0);
             0
         }
@@ -133,16 +117,16 @@ pub extern "C" fn manager_split(
     if out.len() != 4 {
         return 1;
     }
-    let done = load(&words[..]).split(Segment::new(VirtAddr(start), len), VirtAddr(at));
-    let answer = done.answer;
-    let manager = done.manager;
-    match answer {
+    let segment = Segment {
+        start: VirtAddr(start),
+        len,
+    };
+    match split(words, segment, VirtAddr(at)) {
         SplitInto::Refused(why) => {
             put_out(out, 0, 0, 0, 0);
             why.number()
         }
         SplitInto::Parts(low, high) => {
-            store(words, manager);
             put_out(out, low.start.0, low.len, high.start.0, high.len);
             0
         }

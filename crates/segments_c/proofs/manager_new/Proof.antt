@@ -1,21 +1,16 @@
 -- `manager_new` meets its contract, one law for each way through it.
-use mathlib.Core.Path.{refl}
+use mathlib.Core.Path.{_∙_}
 use mathlib.Core.List.{[]}
+use Rattle.segments_c.specs.LentManagerLaws.{new-is, answered-done, answered-refused}
 use borrow.Author.Needs.{needs}
-use Rattle.segments_c.specs.LentManager.{managerOf, newOn}
-use Rattle.segments_c.specs.LentManagerLaws.{other-words, new-is, answered-done, answered-refused}
 use Rattle.segments_c.proofs.manager_new.Statement.{statement}
 use Rattle.segments_c.proofs.manager_new.Tie as tie
-
-returns : tie.Need-returns
-unfolding newOn
-returns c = other-words (c .before .before .args .words .now) _ (c .if1 .taken)
 
 new-requires : tie.Need-new-requires
 new-requires c κs = search needs
 
-enum-known-answer : tie.Need-enum-known-answer
-enum-known-answer c = search needs
+enum-known-why : tie.Need-enum-known-why
+enum-known-why c = search needs
 
 number-requires : tie.Need-number-requires
 number-requires c κs = search needs
@@ -23,37 +18,27 @@ number-requires c κs = search needs
 enum-told : tie.Need-enum-told
 enum-told c = search needs
 
-store-requires : tie.Need-store-requires
-store-requires c κs = search needs
-
-returns-2 : tie.Need-returns-2
-returns-2 c =
-    let a = c .before .before .before .before .before .before .before .before .args in
-    let n = c .before .before .before .before .before .new in
-    new-is (a .words .now) (c .before .before .before .before .before .before .if1 .left) (managerOf (a .words .now)) refl (a .start) (a .size) (n .result) _ (n .ensures)
-    (answered-refused (a .words .now) (a .words .now) [] (n .result .manager) (n .result .answer) _ (c .number .result) (c .before .before .answer .given .1) (c .number .ensures))
-
 same-length : tie.Need-same-length
 same-length c = search needs
 
-returns-3 : tie.Need-returns-3
-returns-3 c =
-    let a = c .before .before .before .before .before .before .before .before .before .before .args in
-    let n = c .before .before .before .before .before .before .before .new in
-    let s = c .before .before .store in
-    new-is (a .words .now) (c .before .before .before .before .before .before .before .before .if1 .left) (managerOf (a .words .now)) refl (a .start) (a .size) (n .result) _ (n .ensures)
-    (answered-done (a .words .now) (s .last .0) [] (n .result .manager) (n .result .answer) (c .before .before .before .before .enum-told .given .1) (s .ensures))
+returns : tie.Need-returns
+returns c = answered-refused (c .before .before .before .before .before .before .new .last .0) [] (c .before .before .before .before .before .before .new .result) _ (c .number .result) (c .before .before .why .given .1) (c .number .ensures) ∙ new-is (c .before .before .before .before .before .before .before .before .before .args .words .now) (c .before .before .before .before .before .before .new .last .0) (c .before .before .before .before .before .before .new .result) (c .before .before .before .before .before .before .before .before .before .args .start) (c .before .before .before .before .before .before .before .before .before .args .size) (c .before .before .before .before .before .before .new .ensures)
+
+same-length-2 : tie.Need-same-length-2
+same-length-2 c = search needs
+
+returns-2 : tie.Need-returns-2
+returns-2 c = answered-done (c .before .before .before .before .new .last .0) [] (c .before .before .before .before .new .result) (c .enum-told .given .1) ∙ new-is (c .before .before .before .before .before .before .before .args .words .now) (c .before .before .before .before .new .last .0) (c .before .before .before .before .new .result) (c .before .before .before .before .before .before .before .args .start) (c .before .before .before .before .before .before .before .args .size) (c .before .before .before .before .new .ensures)
 
 pub manager-new-spec : {M : Type 1} → statement M
 manager-new-spec =
     tie.close
     (tie.spec
-    returns
     new-requires
-    enum-known-answer
+    enum-known-why
     number-requires
     enum-told
-    store-requires
-    returns-2
     same-length
-    returns-3)
+    returns
+    same-length-2
+    returns-2)

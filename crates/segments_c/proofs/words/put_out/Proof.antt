@@ -1,6 +1,6 @@
 -- `words::put_out` meets its contract: four stores into four words.
 use borrow.Author.Needs.{needs}
-use Rattle.segments_c.specs.ManagerWordsLaws.{four}
+use Rattle.segments_c.specs.LentManagerLaws.{four}
 use Rattle.segments_c.proofs.words.put_out.Statement.{statement}
 use Rattle.segments_c.proofs.words.put_out.Tie as tie
 

@@ -1,0 +1,3 @@
+-- What several walks share.
+mod Looped
+mod SegmentRow

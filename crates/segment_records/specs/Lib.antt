@@ -1,0 +1,4 @@
+-- The rooms of this crate, in reading order.
+pub mod Records
+pub mod RecordsLaws
+pub mod SameTableLaws
