@@ -80,10 +80,10 @@ module _ (m : Machine) (f : ℕ) where
   abbrev put : ℕ → ℕ → Machine
   put n h = withPool m (putRow m f n h) (m .pool)
 
-  pub claim-left : (n : ℕ) (q : Pool) → q ≡ m .pool → (one : Machine) → one ≡ put n 1 → (next : ℕ) → next ≡ lowestFree (q .next .0) (framed one) → (r : Pool) → r ≡ takenFrom q n next → (two : Machine) → two ≡ withPool one (one .backings) r → two ≡ claimed m f n
+  pub claim-left : (n : ℕ) (q : Pool) → q ≡ m .pool → (one : Machine) → one ≡ put n 1 → (next : ℕ) → next ≡ lowestFree (q .next .0) (framed one) → (two : Machine) → two ≡ withPool one (one .backings) (takenFrom q n next) → two ≡ claimed m f n
   unfolding claimed
-  claim-left n q e one a next b r c two d =
-      d ∙ ap (λ (x : Machine). withPool x (x .backings) r) a ∙ ap (withPool m (putRow m f n 1)) (c ∙ ap (takenFrom q n) (b ∙ ap (λ (x : Machine). lowestFree (q .next .0) (framed x)) a) ∙ ap (λ (p : Pool). takenFrom p n (lowestFree (p .next .0) (take (m .frameCount) (putRow m f n 1)))) e)
+  claim-left n q e one a next b two d =
+      d ∙ ap (λ (x : Machine). withPool x (x .backings) (takenFrom q n next)) a ∙ ap (withPool m (putRow m f n 1)) (ap (takenFrom q n) (b ∙ ap (λ (x : Machine). lowestFree (q .next .0) (framed x)) a) ∙ ap (λ (p : Pool). takenFrom p n (lowestFree (p .next .0) (take (m .frameCount) (putRow m f n 1)))) e)
 
   module _ (b : Backing) (read : b ≡ getD (m .backings) f noBacking) where
     pub hold-left : (h : ℕ) → h ≡ (b .holders + 1) % 2 ^ 64 → (one : Machine) → one ≡ put (b .len) h → one ≡ held m f
@@ -94,12 +94,12 @@ module _ (m : Machine) (f : ℕ) where
     unfolding released
     fewer-left h one e = let same = ap (λ (x : Backing). x .holders) read in rw (lt-leb (backingAt m f .holders) 1 (omega arith)) (e ∙ ap (λ (x : Backing). put (x .len) (x .holders - 1)) read)
 
-    pub freed-left : b .holders ≤ 1 → (q : Pool) → q ≡ m .pool → (one : Machine) → one ≡ put 0 0 → (r : Pool) → r ≡ givenBack q f (b .len) → (two : Machine) → two ≡ withPool one (one .backings) r → two ≡ released m f
+    pub freed-left : b .holders ≤ 1 → (q : Pool) → q ≡ m .pool → (one : Machine) → one ≡ put 0 0 → (two : Machine) → two ≡ withPool one (one .backings) (givenBack q f (b .len)) → two ≡ released m f
     unfolding released
-    freed-left h q e one a r c two d =
+    freed-left h q e one a two d =
         let same = ap (λ (x : Backing). x .holders) read in
         rw (le-leb (backingAt m f .holders) 1 (omega arith))
-        (d ∙ ap (λ (x : Machine). withPool x (x .backings) r) a ∙ ap (withPool m (putRow m f 0 0)) (c ∙ ap (λ (p : Pool). givenBack p f (b .len)) e ∙ ap (λ (x : Backing). givenBack (m .pool) f (x .len)) read))
+        (d ∙ ap (λ (x : Machine). withPool x (x .backings) (givenBack q f (b .len))) a ∙ ap (withPool m (putRow m f 0 0)) (ap (λ (p : Pool). givenBack p f (b .len)) e ∙ ap (λ (x : Backing). givenBack (m .pool) f (x .len)) read))
 
 -- ---- the next frame taken
 

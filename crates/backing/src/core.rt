@@ -26,10 +26,10 @@ pub fn given_back(pool: Pool, frame: PhysFrame, count: u64) -> Pool
             next: frame,
         };
     }
-    let next = pool.next;
+    let lowest = pool.next;
     Pool {
         free: free,
-        next: next,
+        next: lowest,
     }
 }
 

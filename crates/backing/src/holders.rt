@@ -4,17 +4,16 @@ ghost use Prim.Native.Nat.{_<_};
 ghost use lib.ListN.{length};
 ghost use Rattle.model.specs.Layout.{wordCount, machine};
 ghost use Rattle.backing.specs.BackingSteps.{claimed, held, released, foundFrame, nextFrame, withNextTaken};
-use crate::core::given_back;
-use crate::core::taken;
 use crate::free::FoundFrame;
 use crate::free::frame_rows;
 use crate::free::lowest_free;
+use crate::lent::put_given_back;
+use crate::lent::put_taken;
 use address::PhysFrame;
 use model::Backing;
 use rows::backings::backing_at;
 use rows::backings::pool;
 use rows::backings::put_backing;
-use rows::backings::put_pool;
 
 // A new backing of `count` frames at `frame`, with one holder. The next free frame is no lower than it was.
 pub fn claim(words: &mut [u64], frame: PhysFrame, count: u64)
@@ -32,7 +31,7 @@ pub fn claim(words: &mut [u64], frame: PhysFrame, count: u64)
         },
     );
     let next = lowest_free(&words[..], before.next);
-    put_pool(words, taken(before, count, next));
+    put_taken(words, before, count, next);
 }
 
 // The lowest free frame, claimed as a backing of its own.
@@ -88,5 +87,5 @@ pub fn release(words: &mut [u64], frame: PhysFrame)
     }
     let before = pool(&words[..]);
     put_backing(words, frame.0 as usize, Backing { len: 0, holders: 0 });
-    put_pool(words, given_back(before, frame, b.len));
+    put_given_back(words, before, frame, b.len);
 }

@@ -2,3 +2,4 @@
 pub mod core;
 pub mod free;
 pub mod holders;
+pub mod lent;

@@ -14,17 +14,14 @@ put-backing-requires c κs = search needs
 lowest-free-requires : tie.Need-lowest-free-requires
 lowest-free-requires c κs = search needs
 
-taken-requires : tie.Need-taken-requires
-taken-requires c κs = search needs
-
-put-pool-requires : tie.Need-put-pool-requires
-put-pool-requires c κs = search needs
+put-taken-requires : tie.Need-put-taken-requires
+put-taken-requires c κs = search needs
 
 same-length : tie.Need-same-length
 same-length c = search needs
 
 returns : tie.Need-returns
-returns c = claim-left (machine (c .before .before .before .before .before .before .before .before .before .before .before .before .before .before .args .words .now)) (c .before .before .before .before .before .before .before .before .before .before .before .before .before .before .args .frame .0) (c .before .before .before .before .before .before .before .before .before .before .before .before .before .before .args .count) _ (c .before .before .before .before .before .before .before .before .before .before .before .pool .ensures) _ (c .before .before .before .before .before .before .before .before .before .put-backing .ensures) _ (c .before .before .before .before .before .lowest-free .ensures) _ (c .before .before .before .taken .ensures) _ (c .before .before .put-pool .ensures)
+returns c = claim-left (machine (c .before .before .before .before .before .before .before .before .before .before .before .before .before .args .words .now)) (c .before .before .before .before .before .before .before .before .before .before .before .before .before .args .frame .0) (c .before .before .before .before .before .before .before .before .before .before .before .before .before .args .count) _ (c .before .before .before .before .before .before .before .before .before .before .pool .ensures) _ (c .before .before .before .before .before .before .before .before .put-backing .ensures) _ (c .before .before .before .before .lowest-free .ensures) _ (c .before .before .put-taken .ensures)
 
 pub claim-spec : {M : Type 1} → statement M
 claim-spec =
@@ -33,7 +30,6 @@ claim-spec =
     pool-requires
     put-backing-requires
     lowest-free-requires
-    taken-requires
-    put-pool-requires
+    put-taken-requires
     same-length
     returns)

@@ -27,17 +27,14 @@ pool-requires c κs = search needs
 put-backing-requires-2 : tie.Need-put-backing-requires-2
 put-backing-requires-2 c κs = search needs
 
-given-back-requires : tie.Need-given-back-requires
-given-back-requires c κs = search needs
-
-put-pool-requires : tie.Need-put-pool-requires
-put-pool-requires c κs = search needs
+put-given-back-requires : tie.Need-put-given-back-requires
+put-given-back-requires c κs = search needs
 
 same-length-2 : tie.Need-same-length-2
 same-length-2 c = search needs
 
 returns-2 : tie.Need-returns-2
-returns-2 c = freed-left (machine (c .before .before .before .before .before .before .before .before .before .before .before .before .before .before .before .before .args .words .now)) (c .before .before .before .before .before .before .before .before .before .before .before .before .before .before .before .before .args .frame .0) _ (c .before .before .before .before .before .before .before .before .before .before .before .before .before .backing-at .ensures) (omega arith) _ (c .before .before .before .before .before .before .before .before .before .pool .ensures) _ (c .before .before .before .before .before .before .before .put-backing2 .ensures) _ (c .before .before .before .given-back .ensures) _ (c .before .before .put-pool .ensures)
+returns-2 c = freed-left (machine (c .before .before .before .before .before .before .before .before .before .before .before .before .before .before .before .args .words .now)) (c .before .before .before .before .before .before .before .before .before .before .before .before .before .before .before .args .frame .0) _ (c .before .before .before .before .before .before .before .before .before .before .before .before .backing-at .ensures) (omega arith) _ (c .before .before .before .before .before .before .before .before .pool .ensures) _ (c .before .before .before .before .before .before .put-backing2 .ensures) _ (c .before .before .put-given-back .ensures)
 
 pub release-spec : {M : Type 1} → statement M
 release-spec =
@@ -50,7 +47,6 @@ release-spec =
     returns
     pool-requires
     put-backing-requires-2
-    given-back-requires
-    put-pool-requires
+    put-given-back-requires
     same-length-2
     returns-2)

@@ -1,0 +1,2 @@
+-- What several walks share.
+mod Pools
