@@ -7,17 +7,15 @@ use Rattle.laws.specs.TellsLaws.{told}
 use Rattle.model.specs.declared.Found.{Found}
 use Rattle.model.specs.declared.Place.{Place}
 use Rattle.model.specs.Layout.{machine}
-use Rattle.model.specs.Machine.{noRegion, processAt}
+use Rattle.model.specs.Machine.{processAt}
 use Rattle.model.specs.Create.{spot}
-use Rattle.laws.specs.TestLaws.{tells-rows}
 use Rattle.model.specs.Sound.{Sound, Ordered}
 use Rattle.model.specs.SoundLaws.{tells-processes}
-use Rattle.model.specs.RecordLaws.{process-tells, region-tells, sound-tells}
+use Rattle.model.specs.RecordLaws.{process-tells, sound-tells}
 use Rattle.rows.specs.LentMemory.{stateOf, SoundWords, SoundFrames}
 use Rattle.lookup.specs.LookupsLaws.{processes-length}
 use Rattle.backing.specs.Ready.{Ready}
 use Rattle.backing.specs.BackingLaws.{sound-ready}
-use Rattle.reserve.specs.SortedSegments.{RegionsFit}
 use Rattle.reserve.specs.LowestSpot.{ProcessesFit}
 
 pub frames-words : {w f : List ℕ} → SoundFrames w f → SoundWords w
@@ -30,13 +28,10 @@ module _ (w : List ℕ) (s : SoundWords w) where
   words-processes : ProcessesFit (machine w)
   words-processes = told (tells-processes (machine w) _ _ (process-tells (machine w))) (sound .r6 .processes)
 
-  words-regions : RegionsFit (machine w)
-  words-regions = told (tells-rows noRegion _ _ (λ i r. region-tells (machine w) r) (machine w .regions)) (sound .r6 .regions)
-
   -- the spot that a search finds is the model's
   pub words-spot :
-      (p : ℕ) (place : Place) (len n : ℕ) (x : Found) → (ProcessesFit (machine w) → RegionsFit (machine w) → x ≡ spot (machine w) p place len) → len ≡ n → x ≡ spot (machine w) p place n
-  words-spot p place len n x e l = e words-processes words-regions ∙ ap (λ (k : ℕ). spot (machine w) p place k) l
+      (p : ℕ) (place : Place) (len n : ℕ) (x : Found) → (ProcessesFit (machine w) → x ≡ spot (machine w) p place len) → len ≡ n → x ≡ spot (machine w) p place n
+  words-spot p place len n x e l = e words-processes ∙ ap (λ (k : ℕ). spot (machine w) p place k) l
 
   pub words-ready : Ready (machine w)
   words-ready = sound-ready sound

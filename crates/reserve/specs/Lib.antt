@@ -1,7 +1,6 @@
--- What the crate is proved by: regions that overlap a new segment, a sorted table of words, the lowest free start.
+-- What the crate is proved by: regions that overlap a new segment, the search over slots as they stand, the lowest free start.
 pub mod InTheWay
 pub mod InTheWayLaws
-pub mod SortedSegments
-pub mod SortedSegmentsLaws
+pub mod SlotSearchLaws
 pub mod LowestSpot
 pub mod LowestSpotLaws

@@ -49,8 +49,8 @@ module _ (m : Machine) (p len : ℕ) (q : Process) (read : q ≡ processAt m p) 
     pub lowest-large : q .size < len → Nothing ≡ lowestStart m p len
     lowest-large h = lowest-when true (rw (ne-eqb len 0 some) (lt-ltb (q .size) len h))
 
-    pub lowest-searched : len ≤ q .size → (t : List Segment) → t ≡ segmentsOf m p → (f : Found) → f ≡ foundStart (searched q t) → f ≡ lowestStart m p len
-    lowest-searched h t e f g = g ∙ ap (λ (x : List Segment). foundStart (searched q x)) e ∙ lowest-when false (rw (ne-eqb len 0 some) (le-ltb (q .size) len h))
+    pub lowest-searched : len ≤ q .size → (f : Found) → f ≡ foundStart (searched q (segmentsOf m p)) → f ≡ lowestStart m p len
+    lowest-searched h f g = g ∙ lowest-when false (rw (ne-eqb len 0 some) (le-ltb (q .size) len h))
 
 -- an arena that fits ends at an address
 pub arena-ends : (w : List ℕ) (p : ℕ) → p < 8 → (q : Process) → q ≡ processAt (machine w) p → ProcessesFit (machine w) → 18446744073709551615 - q .start .0 < q .size - 1 → ⊥

@@ -1,71 +1,31 @@
--- `reserved` tells whether a region is in the way. The invariant: what is left to look at gives the same answer.
-use mathlib.Core.Path.{refl, sym, _∙_}
-use Prim.Native.Nat.{_-_}
-use native.Mathlib.Omega.{arith}
+-- `reserved` tells whether a region is in the way.
 use Rattle.model.specs.declared.Found.the-variants.{At, Nothing}
 use Rattle.model.specs.Layout.{machine}
-use Rattle.model.specs.Machine.{noRegion}
-use Rattle.model.specs.Lookup.{regionsOf}
-use Rattle.lookup.specs.ScanLaws.{Passed, pass-found, pass-more, pass-all}
-use Rattle.lookup.specs.LookupsLaws.{slots-length, slot-at}
-use Rattle.reserve.specs.InTheWay.{overUsed}
 use Rattle.reserve.specs.InTheWayLaws.{reserved-empty, reserved-found}
+use native.Mathlib.Omega.{arith}
+use mathlib.Core.Path.{sym, _∙_}
+use borrow.Author.Needs.{needs}
 use Rattle.reserve.proofs.taken.reserved.Statement.{statement}
 use Rattle.reserve.proofs.taken.reserved.Tie as tie
 
-abbrev Inv-loop : tie.InvT-loop
-Inv-loop words process start len i₀ i = Passed (overUsed start len) (regionsOf (machine words) process) 64 i
-
-abbrev μ-loop : tie.MeasureT-loop
-μ-loop words process start len i₀ i = 64 - i
-
-returns : tie.Need-returns Inv-loop μ-loop
+returns : tie.Need-returns
 returns c = reserved-empty (machine (c .before .before .args .words .now)) (c .before .before .args .process) (c .before .before .args .start) (c .before .before .args .len) (c .if1 .taken)
 
-loop-holds : tie.Need-loop-holds Inv-loop μ-loop
-loop-holds c = (omega arith, refl)
+first-over-requires : tie.Need-first-over-requires
+first-over-requires c κs = search needs
 
-mul-region-at : tie.Need-mul-region-at Inv-loop μ-loop
-mul-region-at c = omega arith
+enum-told : tie.Need-enum-told
+enum-told c = search needs
 
-add-region-at : tie.Need-add-region-at Inv-loop μ-loop
-add-region-at c = omega arith
+enum-told-2 : tie.Need-enum-told-2
+enum-told-2 c = search needs
 
-region-at-requires : tie.Need-region-at-requires Inv-loop μ-loop
-region-at-requires c κs = (c .before .before .before .before .pre .0, omega arith)
+returns-2 : tie.Need-returns-2
+returns-2 c = reserved-found (machine (c .before .before .before .before .before .args .words .now)) (c .before .before .before .before .before .args .process) (c .before .before .before .before .before .args .start) (c .before .before .before .before .before .args .len) (c .before .before .before .if1 .left) Nothing (sym (c .enum-told2 .given .1) ∙ c .before .before .first-over .ensures)
 
-is-over-requires : tie.Need-is-over-requires Inv-loop μ-loop
-is-over-requires c κs = omega (arith, c .before .before .before .if1 .left)
-
-returns-2 : tie.Need-returns-2 Inv-loop μ-loop
-returns-2 c = let w = c .before .before .before .before .before .before .before .args .words .now in let p = c .before .before .before .before .before .before .before .args .process in reserved-found (machine w) p (c .before .before .before .before .before .before .before .args .start) (c .before .before .before .before .before .before .before .args .len) (c .before .before .before .before .before .if1 .left) (At (c .before .before .before .before .loop .i)) (pass-found (overUsed (c .before .before .before .before .before .before .before .args .start) (c .before .before .before .before .before .before .before .args .len)) (regionsOf (machine w) p) 64 (slots-length w p (c .before .before .before .before .before .before .before .pre .1)) _ (c .before .before .before .before .loop .inv) (c .before .before .before .loop-test .taken) noRegion _ (slot-at w p _ _ (c .before .before .before .loop-test .taken) (c .before .before .region-at .ensures)) (sym (c .before .is-over .ensures) ∙ c .if2 .taken))
-
-add-i : tie.Need-add-i Inv-loop μ-loop
-add-i c = omega arith
-
-loop-less : tie.Need-loop-less Inv-loop μ-loop
-loop-less c = omega arith
-
-loop-again : tie.Need-loop-again Inv-loop μ-loop
-loop-again c = let w = c .before .before .before .before .before .before .before .args .words .now in let p = c .before .before .before .before .before .before .before .args .process in pass-more (overUsed (c .before .before .before .before .before .before .before .args .start) (c .before .before .before .before .before .before .before .args .len)) (regionsOf (machine w) p) 64 (slots-length w p (c .before .before .before .before .before .before .before .pre .1)) _ (c .before .before .before .before .loop .inv) (c .before .before .before .loop-test .taken) noRegion _ (slot-at w p _ _ (c .before .before .before .loop-test .taken) (c .before .before .region-at .ensures)) (sym (c .before .is-over .ensures) ∙ c .if2 .left)
-
-returns-3 : tie.Need-returns-3 Inv-loop μ-loop
-returns-3 c = let w = c .before .before .before .before .args .words .now in let p = c .before .before .before .before .args .process in reserved-found (machine w) p (c .before .before .before .before .args .start) (c .before .before .before .before .args .len) (c .before .before .if1 .left) Nothing (pass-all (overUsed (c .before .before .before .before .args .start) (c .before .before .before .before .args .len)) (regionsOf (machine w) p) 64 (slots-length w p (c .before .before .before .before .pre .1)) _ (c .before .loop .inv) (c .loop-test .left))
+returns-3 : tie.Need-returns-3
+returns-3 c = reserved-found (machine (c .before .before .before .before .before .args .words .now)) (c .before .before .before .before .before .args .process) (c .before .before .before .before .before .args .start) (c .before .before .before .before .before .args .len) (c .before .before .before .if1 .left) (At _) (sym (c .enum-told .given .1) ∙ c .before .before .first-over .ensures)
 
 pub reserved-spec : {M : Type 1} → statement M
 reserved-spec =
-    tie.close
-    (tie.spec
-    Inv-loop
-    μ-loop
-    returns
-    loop-holds
-    mul-region-at
-    add-region-at
-    region-at-requires
-    is-over-requires
-    returns-2
-    add-i
-    loop-less
-    loop-again
-    returns-3)
+    tie.close (tie.spec returns first-over-requires enum-told enum-told-2 returns-2 returns-3)
