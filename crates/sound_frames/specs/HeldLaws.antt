@@ -113,3 +113,8 @@ holders-counted m f h =
     ∙ ap (λ (n : ℕ). n + count (λ (k : Hold). eqb (k .frame) f) (rangeHolds (m .regions))) (count-kept _ _ _ entryHeld (at f) (λ e. marked _ (e .frame .0) f h) (m .entries))
     ∙ ap (λ (n : ℕ). count (at f) (map entryHeld (m .entries)) + n) (count-kept _ _ _ rangeHeld (at f) (λ r. marked _ (r .range .0) f h) (m .regions))
     ∙ sym (count-append (at f) (map entryHeld (m .entries)) (map rangeHeld (m .regions)))
+
+-- a free slot holds nothing
+pub free-holds : (r : Region) → r .kind ≡ 0 → rangeHeld r .frame ≡ 256
+unfolding placeOf
+free-holds r e = rw (eq-eqb (r .kind) 0 e)

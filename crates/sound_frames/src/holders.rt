@@ -12,6 +12,7 @@ use crate::held::by_range;
 use model::Backing;
 use model::ENTRIES;
 use model::FRAMES;
+use model::FREE;
 use rows::backings::backing_at;
 use rows::pages::entry_at;
 use rows::slots::region_at;
@@ -77,7 +78,7 @@ fn tally_entries(words: &[u64], counts: &mut [u16])
     }
 }
 
-// Counts the ranges, holders 512 to 1023.
+// Counts the ranges, holders 512 to 1023. Most slots are free, and are passed at once.
 fn tally_ranges(words: &[u64], counts: &mut [u16])
     requires { ⌜ length (now words) ≡ wordCount ⌝ }
     requires { ⌜ Counts (now words) (now counts) 512 ⌝ }
@@ -86,9 +87,12 @@ fn tally_ranges(words: &[u64], counts: &mut [u16])
     let mut k = ENTRIES;
     while k < HOLDERS {
         let region = region_at(words, k - ENTRIES);
+        k += 1;
+        if region.kind == FREE {
+            continue;
+        }
         let h = by_range(region);
         let frame = h.frame;
-        k += 1;
         if frame == FRAMES {
             continue;
         }

@@ -15,6 +15,7 @@ use crate::held::by_entry;
 use crate::held::by_range;
 use crate::held::held_by;
 use model::FRAMES;
+use model::FREE;
 use rows::pages::entry_at;
 use rows::slots::region_at;
 
@@ -63,9 +64,12 @@ fn ranges_alike(words: &[u64], marks: &mut [u16]) -> bool
     let mut k: u16 = 512;
     while k < 1024 {
         let region = region_at(words, (k - 512) as usize);
+        k += 1;
+        if region.kind == FREE {
+            continue;
+        }
         let h = by_range(region);
         let frame = h.frame;
-        k += 1;
         if frame == FRAMES {
             continue;
         }

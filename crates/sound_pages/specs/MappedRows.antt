@@ -1,31 +1,40 @@
--- The pass over the mapped pages: the home of each, and what is known after each row.
+-- The pass over the mapped pages: the place of a home in the list of attached regions, and the rows with one home, one after the other.
 use mathlib.Core.Path.{_≡_}
-use mathlib.Core.Bool.{Bool, true, false, not, _||_, cond}
-use Prim.Native.Nat.{ℕ}
-use lib.Dec.{eqb}
-use Rattle.model.specs.declared.Mapping.{Mapping}
+use mathlib.Core.Bool.{true, false}
+use Prim.Native.Nat.{ℕ, _+_, _*_, _≤_, _<_}
+use lib.ListN.{length, getD}
 use Rattle.model.specs.declared.Found.{Found}
 use Rattle.model.specs.declared.Found.the-variants.{At, Nothing}
-use Rattle.laws.specs.Lists.{among}
-use Rattle.model.specs.Machine.{Machine, regionAt, orderOf}
+use Rattle.model.specs.Machine.{Machine, regionAt, mappedOf}
 use Rattle.model.specs.Lookup.{contains}
-use Rattle.model.specs.Sound.{homeOf}
-use Rattle.sound_pages.specs.MappedFit.{rangeAllows}
+use Rattle.model.specs.Paging.{pageStart}
+use Rattle.laws.specs.Loops.{Every}
+use Rattle.paging.specs.Place.{pageAt}
+use Rattle.sound_pages.specs.MappedFit.{fit, allFit}
 
--- a slot that was found is attached
-unfoldable pub AttachedAt : Machine → ℕ → Found → Type 0
-AttachedAt m p Nothing = Unit {0}
-AttachedAt m p (At s) = among s (orderOf m p) ≡ true
+-- the slot at a place of a process's list
+abbrev pub slotAt : Machine → ℕ → ℕ → ℕ
+slotAt m p i = getD (m .order) (p * 64 + i) 0
 
--- .. and holds an address
-abbrev pub holdsIn : Machine → ℕ → ℕ → Found → Bool
-holdsIn m p a Nothing = false
-holdsIn m p a (At s) = contains (regionAt m p s) a
+-- no region from one place up to another holds an address
+abbrev pub Unheld : Machine → ℕ → ℕ → ℕ → ℕ → Type 0
+Unheld m p a from to = (j : ℕ) → from ≤ j → j < to → contains (regionAt m p (slotAt m p j)) a ≡ false
 
--- a home, if the row is marked or the home's range allows the mapping
-abbrev pub fittingAt : Machine → ℕ → Mapping → ℕ → Found → Found
-fittingAt m p x mark Nothing = Nothing
-fittingAt m p x mark (At s) = cond (not (eqb mark 0) || rangeAllows m (regionAt m p s) x) (At s) Nothing
+-- a place below `to` whose region holds an address, or none from one place up to `to`
+unfoldable pub HeldAt : Machine → ℕ → ℕ → ℕ → ℕ → Found → Type 0
+HeldAt m p a from to (At i) = (i < to) × (contains (regionAt m p (slotAt m p i)) a ≡ true)
+HeldAt m p a from to Nothing = Unheld m p a from to
 
-abbrev pub fittingHome : Machine → ℕ → Mapping → ℕ → Found
-fittingHome m p x mark = fittingAt m p x mark (homeOf m p x)
+-- the slot at a place that was found
+abbrev pub listed : Machine → ℕ → Found → Found
+listed m p (At i) = At (slotAt m p i)
+listed m p Nothing = Nothing
+
+-- every mapped page fits exactly if those from row i on do
+abbrev pub FitFrom : Machine → ℕ → ℕ → Type 0
+FitFrom m p i = Every (λ i x. fit m p x) (mappedOf m p) (length (mappedOf m p)) i
+
+-- after rows that start in the region of a slot, from one row on: where to go on, past the first if it starts there; or not every page fits
+unfoldable pub Ran : Machine → ℕ → ℕ → ℕ → Found → Type 0
+Ran m p s from (At i) = FitFrom m p i × (i ≤ from → from < length (mappedOf m p) → contains (regionAt m p s) (pageStart (pageAt (mappedOf m p) from)) ≡ false)
+Ran m p s from Nothing = false ≡ allFit m p

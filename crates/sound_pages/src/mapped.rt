@@ -1,12 +1,12 @@
 // R4 and R5: a mapped page starts in one attached region, its frame is that region's backing of the page, and its flags fit.
 ghost use mathlib.Core.Path.{_≡_};
-ghost use mathlib.Core.Bool.{_&&_, _||_, not};
-ghost use Prim.Native.Nat.{_+_, _≤_, _<_};
+ghost use mathlib.Core.Bool.{true, _&&_, _||_, not};
+ghost use Prim.Native.Nat.{_+_, _-_, _≤_, _<_};
 ghost use lib.ListN.{length};
-ghost use lib.Dec.{eqb};
+ghost use lib.Dec.{eqb, ltb, leb};
 ghost use Rattle.model.specs.Layout.{wordCount, machine};
-ghost use Rattle.model.specs.Machine.{mappedOf, regionAt};
-ghost use Rattle.model.specs.Lookup.{rowFound};
+ghost use Rattle.model.specs.Machine.{mappedOf};
+ghost use Rattle.model.specs.Lookup.{rowFound, isAttached};
 ghost use Rattle.model.specs.SoundTest.{flaggedb, r4b, r5b};
 ghost use Rattle.paging.specs.Order.{Rising};
 ghost use Rattle.sound_pages.specs.Laid.{Laid};
@@ -16,12 +16,12 @@ ghost use Rattle.sound_pages.specs.MappedMarks.{ofProcess, Seen};
 ghost use Rattle.sound_pages.specs.MappedTests.{isOwn};
 ghost use Rattle.sound_pages.specs.MappedSpans.{ProcessOf, Spanned, Unspanned, Spans};
 ghost use Rattle.sound_pages.specs.MappedEntries.{RowOf, After, AfterAll};
-ghost use Rattle.sound_pages.specs.MappedRows.{AttachedAt, holdsIn, fittingHome};
+ghost use Rattle.sound_pages.specs.MappedRows.{HeldAt, listed, FitFrom, Ran};
 use address::PAGE_COUNT;
 use address::Page;
 use address::PageTableFlags;
 use address::VirtAddr;
-use lookup::attached::region_for;
+use lookup::attached::attached_count;
 use lookup::attached::slot_contains;
 use lookup::backed::backing_from;
 use lookup::backed::pages_past;
@@ -40,11 +40,13 @@ use paging::search::row_at;
 use paging::search::row_for;
 use paging::search::stands_at;
 use rows::pages::entry_at;
+use rows::sizes::pages_for;
+use rows::slots::order_at;
 use rows::slots::region_at;
 
-// What an entry tells: its page's mapping fits, and the row to look at first for the next entry; or it does not.
+// What an entry tells: its page's mapping fits, and the page that row 0 would have if all pages up to this one were mapped; or it does not.
 enum Marking {
-    Fits(usize),
+    Fits(u64),
     Misfits,
 }
 
@@ -102,13 +104,19 @@ fn entry_allows(words: &[u64], entry: Entry, mapping: Mapping) -> bool
     flags_fit(owner, mapping.flags, backing.holders)
 }
 
-// The row in which a page is mapped: the near one, or else by the search.
-fn row_near(words: &[u64], process: usize, page: Page, near: usize) -> Found
+// The page that row 0 would have if all pages up to one in a row were mapped.
+fn first_page(page: Page, row: usize) -> u64 {
+    page.pages_past(Page(row as u64))
+}
+
+// The row in which a page is mapped: as far from row 0 as from a first page, or else by the search.
+fn row_near(words: &[u64], process: usize, page: Page, first: u64) -> Found
     requires { ⌜ length (now words) ≡ wordCount ⌝ }
     requires { ⌜ process < 8 ⌝ }
     ensures { λ r. ⌜ rowFound r < 128 ⌝ }
     ensures { λ r. ⌜ (Rising (mappedOf (machine (now (words .entry))) process) → RowOf (mappedOf (machine (now (words .entry))) process) (page .0) r) ⌝ }
 {
+    let near = page.pages_past(Page(first)) as usize;
     if stands_at(words, process, near, page) {
         return Found::At(near);
     }
@@ -116,7 +124,7 @@ fn row_near(words: &[u64], process: usize, page: Page, near: usize) -> Found
 }
 
 // Marks the row in which the page of entry i is mapped, if the entry is of the process and allows the mapping.
-fn mark_entry(words: &[u64], process: usize, i: usize, near: usize, marks: &mut [u8]) -> Marking
+fn mark_entry(words: &[u64], process: usize, i: usize, first: u64, marks: &mut [u8]) -> Marking
     requires { ⌜ length (now words) ≡ wordCount ⌝ }
     requires { ⌜ process < 8 ⌝ }
     requires { ⌜ i < 512 ⌝ }
@@ -125,21 +133,22 @@ fn mark_entry(words: &[u64], process: usize, i: usize, near: usize, marks: &mut 
 {
     let entry = entry_at(words, i);
     if !is_of(entry, process) {
-        return Marking::Fits(near);
+        return Marking::Fits(first);
     }
-    let Found::At(row) = row_near(words, process, entry.page, near) else {
-        return Marking::Fits(near);
+    let Found::At(row) = row_near(words, process, entry.page, first) else {
+        return Marking::Fits(first);
     };
     let mapping = row_at(words, process, row);
     if !entry_allows(words, entry, mapping) {
         return Marking::Misfits;
     }
     marks[row] = 1;
-    Marking::Fits(row + 1)
+    Marking::Fits(first_page(entry.page, row))
 }
 
 // Marks the mapped rows whose pages have an entry; no where a mapping is not what its entry allows. The process's entries lie from
-// one row up to another. They mostly come in page order, so each is looked for first in the row after the last one's.
+// one row up to another. Neighbouring pages are mostly mapped together, so each is looked for first as far from the last one's row as its
+// page is from that one's.
 fn mark_entries(words: &[u64], process: usize, from: usize, to: usize, marks: &mut [u8]) -> bool
     requires { ⌜ length (now words) ≡ wordCount ⌝ }
     requires { ⌜ process < 8 ⌝ }
@@ -147,13 +156,13 @@ fn mark_entries(words: &[u64], process: usize, from: usize, to: usize, marks: &m
     requires { ⌜ length (now marks) ≡ 128 ⌝ }
     ensures { λ r. ⌜ (Laid (machine (now (words .entry))) → Spanned (machine (now (words .entry))) process from to → Seen (machine (now (words .entry))) process 0 (now (marks .entry)) → AfterAll (machine (now (words .entry))) process (now (marks .exit)) r) ⌝ }
 {
-    let mut near = 0;
+    let mut first = 0;
     let mut i = from;
     while i < to {
-        let Marking::Fits(next) = mark_entry(words, process, i, near, marks) else {
+        let Marking::Fits(next) = mark_entry(words, process, i, first, marks) else {
             return false;
         };
-        near = next;
+        first = next;
         i += 1;
     }
     true
@@ -181,67 +190,108 @@ fn range_allows(words: &[u64], region: Region, mapping: Mapping) -> bool
     flags_fit(region, mapping.flags, backing.holders)
 }
 
-// Whether the region in a slot that was found holds an address.
-fn found_contains(words: &[u64], process: usize, found: Found, addr: VirtAddr) -> bool
+// The first place of a process's list, from one up to another, whose region holds an address.
+fn place_for(words: &[u64], process: usize, addr: VirtAddr, from: usize, to: usize) -> Found
     requires { ⌜ length (now words) ≡ wordCount ⌝ }
     requires { ⌜ process < 8 ⌝ }
-    ensures { λ r. ⌜ r ≡ holdsIn (machine (now (words .entry))) process (addr .0) found ⌝ }
+    requires { ⌜ to ≤ 64 ⌝ }
+    ensures { λ r. ⌜ HeldAt (machine (now (words .entry))) process (addr .0) from to r ⌝ }
 {
-    match found {
-        Found::At(slot) => slot_contains(words, process, slot, addr),
-        Found::Nothing => false,
+    let mut i = from;
+    while i < to {
+        let slot = order_at(words, process * SLOTS + i) as usize;
+        if slot_contains(words, process, slot, addr) {
+            return Found::At(i);
+        }
+        i += 1;
     }
+    Found::Nothing
 }
 
-// The attached region in which a page starts: the last one, or else by the search. No region holds a page past the user addresses.
-fn home_near(words: &[u64], process: usize, page: Page, last: Found) -> Found
+// The place after the next one, or the end of the list.
+fn two_from(near: usize, count: usize) -> usize
+    requires { ⌜ near < 64 ⌝ }
+    ensures { λ r. ⌜ r ≤ count ⌝ }
+{
+    if near + 2 < count {
+        return near + 2;
+    }
+    count
+}
+
+// The place of the attached region in which a page starts: the one after a place, or else any. No region holds a page past the user
+// addresses.
+fn home_place(words: &[u64], process: usize, page: Page, near: usize) -> Found
     requires { ⌜ length (now words) ≡ wordCount ⌝ }
     requires { ⌜ process < 8 ⌝ }
-    ensures { λ r. ⌜ (Laid (machine (now (words .entry))) → AttachedAt (machine (now (words .entry))) process last → r ≡ homeAt (machine (now (words .entry))) process (page .0)) ⌝ }
+    requires { ⌜ near < 64 ⌝ }
+    ensures { λ r. ⌜ rowFound r < 64 ⌝ }
+    ensures { λ r. ⌜ (Laid (machine (now (words .entry))) → listed (machine (now (words .entry))) process r ≡ homeAt (machine (now (words .entry))) process (page .0)) ⌝ }
 {
     if page.0 >= PAGE_COUNT {
         return Found::Nothing;
     }
     let start = page.start_address();
-    if found_contains(words, process, last, start) {
-        return last;
+    let count = attached_count(words, process);
+    let to = two_from(near, count);
+    let Found::At(place) = place_for(words, process, start, near + 1, to) else {
+        return place_for(words, process, start, 0, count);
+    };
+    Found::At(place)
+}
+
+// Whether a page is one of so many pages from a first one on.
+fn is_among(page: Page, first: Page, pages: u64) -> bool
+    ensures { λ r. ⌜ r ≡ (leb (first .0) (page .0) && ltb (page .0 - first .0) pages) ⌝ }
+{
+    if page.0 < first.0 {
+        return false;
     }
-    region_for(words, process, start)
+    page.0 - first.0 < pages
 }
 
 // Whether a mapping's row is marked, or else its home's range allows it.
-fn is_backed(words: &[u64], process: usize, slot: usize, mapping: Mapping, mark: u8) -> bool
+fn is_backed(words: &[u64], region: Region, mapping: Mapping, mark: u8) -> bool
     requires { ⌜ length (now words) ≡ wordCount ⌝ }
-    requires { ⌜ process < 8 ⌝ }
-    ensures { λ r. ⌜ (slot < 64 → r ≡ (not (eqb mark 0) || rangeAllows (machine (now (words .entry))) (regionAt (machine (now (words .entry))) process slot) mapping)) ⌝ }
+    ensures { λ r. ⌜ r ≡ (not (eqb mark 0) || rangeAllows (machine (now (words .entry))) region mapping) ⌝ }
 {
-    if slot >= SLOTS {
-        return false;
-    }
     if mark != 0 {
         return true;
     }
-    let region = region_at(words, process * SLOTS + slot);
     range_allows(words, region, mapping)
 }
 
-// The home of a mapping that fits.
-fn fitting_home(words: &[u64], process: usize, mapping: Mapping, mark: u8, last: Found) -> Found
+// Goes through a process's mapped rows, from one on, as long as they start in the region of an attached slot: the row after them, or
+// nothing where one of them does not fit.
+fn run_fits(words: &[u64], process: usize, slot: usize, from: usize, marks: &[u8]) -> Found
     requires { ⌜ length (now words) ≡ wordCount ⌝ }
     requires { ⌜ process < 8 ⌝ }
-    ensures { λ r. ⌜ (Laid (machine (now (words .entry))) → AttachedAt (machine (now (words .entry))) process last → r ≡ fittingHome (machine (now (words .entry))) process mapping mark) ⌝ }
+    requires { ⌜ length (now marks) ≡ 128 ⌝ }
+    ensures { λ r. ⌜ (Laid (machine (now (words .entry))) → Seen (machine (now (words .entry))) process 512 (now (marks .entry)) → isAttached (machine (now (words .entry))) process slot ≡ true → FitFrom (machine (now (words .entry))) process from → Ran (machine (now (words .entry))) process slot from r) ⌝ }
 {
-    let Found::At(slot) = home_near(words, process, mapping.page, last) else {
+    if slot >= SLOTS {
         return Found::Nothing;
-    };
-    if is_backed(words, process, slot, mapping, mark) {
-        return Found::At(slot);
     }
-    Found::Nothing
+    let region = region_at(words, process * SLOTS + slot);
+    let first = Page::containing_address(region.start);
+    let pages = pages_for(region.size);
+    let n = mapped_count(words, process);
+    let mut i = from;
+    while i < n {
+        let mapping = row_at(words, process, i);
+        if !is_among(mapping.page, first, pages) {
+            return Found::At(i);
+        }
+        if !is_backed(words, region, mapping, marks[i]) {
+            return Found::Nothing;
+        }
+        i += 1;
+    }
+    Found::At(i)
 }
 
-// Whether every mapped page of a process fits, where those that have an entry are marked. Pages rise, so each is looked for first
-// in the region of the one before.
+// Whether every mapped page of a process fits, where those that have an entry are marked. Pages rise, so rows of one home follow each
+// other, and the next home is looked for near the last one's place in the list.
 fn rows_fit(words: &[u64], process: usize, marks: &[u8]) -> bool
     requires { ⌜ length (now words) ≡ wordCount ⌝ }
     requires { ⌜ process < 8 ⌝ }
@@ -249,15 +299,22 @@ fn rows_fit(words: &[u64], process: usize, marks: &[u8]) -> bool
     ensures { λ r. ⌜ (Laid (machine (now (words .entry))) → Seen (machine (now (words .entry))) process 512 (now (marks .entry)) → r ≡ allFit (machine (now (words .entry))) process) ⌝ }
 {
     let n = mapped_count(words, process);
-    let mut last = Found::Nothing;
+    let mut near = 0;
     let mut i = 0;
     while i < n {
         let mapping = row_at(words, process, i);
-        let Found::At(slot) = fitting_home(words, process, mapping, marks[i], last) else {
+        let Found::At(place) = home_place(words, process, mapping.page, near) else {
             return false;
         };
-        last = Found::At(slot);
-        i += 1;
+        let slot = order_at(words, process * SLOTS + place) as usize;
+        let Found::At(next) = run_fits(words, process, slot, i, marks) else {
+            return false;
+        };
+        if next <= i {
+            return false;
+        }
+        near = place;
+        i = next;
     }
     true
 }

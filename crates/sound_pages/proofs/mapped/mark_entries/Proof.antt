@@ -14,10 +14,10 @@ use Rattle.sound_pages.proofs.mapped.mark_entries.Statement.{statement}
 use Rattle.sound_pages.proofs.mapped.mark_entries.Tie as tie
 
 abbrev Inv-loop : tie.InvT-loop
-Inv-loop words process from to marks₀ near₀ i₀ marks near i = (length marks ≡ 128) × (Laid (machine words) → Spanned (machine words) process from to → Seen (machine words) process 0 marks₀ → Seen (machine words) process i marks)
+Inv-loop words process from to marks₀ first₀ i₀ marks first i = (length marks ≡ 128) × (Laid (machine words) → Spanned (machine words) process from to → Seen (machine words) process 0 marks₀ → Seen (machine words) process i marks)
 
 abbrev μ-loop : tie.MeasureT-loop
-μ-loop words process from to marks₀ near₀ i₀ marks near i = to - i
+μ-loop words process from to marks₀ first₀ i₀ marks first i = to - i
 
 loop-holds : tie.Need-loop-holds Inv-loop μ-loop
 loop-holds c = let a = c .before .before .args in (c .before .before .pre .1 .1 .1, λ laid span seen. seen-from (machine (a .words .now)) (a .process) (a .from) (a .to) span _ (c .before .before .pre .1 .1 .0 .0) seen)

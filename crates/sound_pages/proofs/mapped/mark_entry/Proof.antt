@@ -40,14 +40,14 @@ returns-3 c = λ laid seen. mark-misfit (c .before .before .before .before .befo
 slice-write-marks : tie.Need-slice-write-marks
 slice-write-marks c = let low = row-low _ _ (c .before .before .before .before .row .given .1) (c .before .before .before .before .before .before .row-near .ensures .0) in omega arith
 
-add-t13 : tie.Need-add-t13
-add-t13 c = let low = row-low _ _ (c .before .before .before .before .row .given .1) (c .before .before .before .before .before .before .row-near .ensures .0) in omega arith
+first-page-requires : tie.Need-first-page-requires
+first-page-requires c κs = search needs
 
 same-length : tie.Need-same-length
 same-length c = search needs
 
 returns-4 : tie.Need-returns-4
-returns-4 c = λ laid seen. mark-row (c .before .before .before .before .before .before .before .before .before .before .before .before .args .words .now) laid (c .before .before .before .before .before .before .before .before .before .before .before .before .args .process) (c .before .before .before .before .before .before .before .before .before .before .before .before .pre .1 .0) (c .before .before .before .before .before .before .before .before .before .before .before .before .args .i) (c .before .before .before .before .before .before .before .before .before .before .before .before .pre .1 .1 .0) (c .before .before .before .before .before .before .before .before .before .before .before .before .args .marks .now) seen _ (c .before .before .before .before .before .before .before .before .before .entry-at .ensures) _ (c .before .before .before .before .before .before .row-near .ensures .1) (allowed (c .before .before .before .before .before .before .before .before .is-of .ensures) (c .before .before .before .before .before .before .before .if1 .left)) _ (c .before .before .before .before .row .given .1) _ (c .before .before .row-at .ensures) (allowed (c .before .entry-allows .ensures) (c .if2 .left)) (c .before .before .before .before .before .before .before .before .before .before .before .before .pre .1 .1 .1) _
+returns-4 c = λ laid seen. mark-row (c .before .before .before .before .before .before .before .before .before .before .before .before .before .args .words .now) laid (c .before .before .before .before .before .before .before .before .before .before .before .before .before .args .process) (c .before .before .before .before .before .before .before .before .before .before .before .before .before .pre .1 .0) (c .before .before .before .before .before .before .before .before .before .before .before .before .before .args .i) (c .before .before .before .before .before .before .before .before .before .before .before .before .before .pre .1 .1 .0) (c .before .before .before .before .before .before .before .before .before .before .before .before .before .args .marks .now) seen _ (c .before .before .before .before .before .before .before .before .before .before .entry-at .ensures) _ (c .before .before .before .before .before .before .before .row-near .ensures .1) (allowed (c .before .before .before .before .before .before .before .before .before .is-of .ensures) (c .before .before .before .before .before .before .before .before .if1 .left)) _ (c .before .before .before .before .before .row .given .1) _ (c .before .before .before .row-at .ensures) (allowed (c .before .before .entry-allows .ensures) (c .before .if2 .left)) (c .before .before .before .before .before .before .before .before .before .before .before .before .before .pre .1 .1 .1) _
 
 pub mark-entry-spec : {M : Type 1} → statement M
 mark-entry-spec =
@@ -64,6 +64,6 @@ mark-entry-spec =
     entry-allows-requires
     returns-3
     slice-write-marks
-    add-t13
+    first-page-requires
     same-length
     returns-4)
