@@ -27,18 +27,21 @@ struct machine {
     uint8_t files[FILE_BYTES];
 };
 
-/* How full a machine is. */
+/* How full a machine is, whether its page entries stand in shuffled rows, and where the arenas start. */
 struct fill {
     const char *name;
-    unsigned processes, regions, pages;
+    unsigned processes, regions, pages, shuffled;
+    uint64_t arena;
 };
 
-/* A full machine refuses to make anything; the others have room. */
+/* A full machine refuses to make anything; the others have room. Where the arena starts with the regions, creation at the lowest start
+ * meets them all and starts over once for each. */
 static const struct fill fills[] = {
-    { "empty", 1, 0, 0 },
-    { "one process", 1, 62, 3 },
-    { "room", 2, 60, 3 },
-    { "full", 2, 64, 4 },
+    { "empty", 1, 0, 0, 0, 0 },
+    { "one process", 1, 62, 3, 0, 0 },
+    { "room", 2, 60, 3, 0, 0 },
+    { "63 in the way", 2, 63, 4, 1, BASE },
+    { "full", 2, 64, 4, 1, BASE },
 };
 enum { FILLS = sizeof fills / sizeof *fills };
 
@@ -50,15 +53,18 @@ static uint64_t page_of(const struct fill *f, unsigned slot, unsigned k) {
     return BASE / PAGE + (uint64_t)(f->regions - 1 - slot) * (PAGES + 1) + k;
 }
 
-/* Processes with the same regions and pages, as after a fork: each frame has as many holders as there are processes. The entries stand
- * in falling order, so that the soundness test sorts them, and the lists of regions are in the order of slots, which fall too. */
+/* The row of entry k of n: in falling order, or five apart, which hits each row once where n is no multiple of 5. */
+static unsigned entry_row(const struct fill *f, unsigned k, unsigned n) { return f->shuffled ? k * 5 % n : n - 1 - k; }
+
+/* Processes with the same regions and pages, as after a fork: each frame has as many holders as there are processes. The entries do not
+ * stand in rising order, so that the soundness test sorts them, and the lists of regions are in the order of slots, which fall. */
 static void build(struct machine *m, const struct fill *f) {
     memset(m, 0, sizeof *m);
     uint64_t *w = m->words;
     unsigned frames = f->regions * f->pages, entries = frames * f->processes;
     for (unsigned p = 0; p < f->processes; p++) {
         unsigned mapped = frames < MAPPED ? frames : MAPPED;
-        uint64_t process[PROCESS_WORDS] = { 1, 0, ARENA, f->regions, mapped };
+        uint64_t process[PROCESS_WORDS] = { 1, f->arena, ARENA, f->regions, mapped };
         memcpy(w + p * PROCESS_WORDS, process, sizeof process);
         for (unsigned slot = 0; slot < f->regions; slot++) {
             unsigned row = p * SLOTS + slot;
@@ -68,7 +74,7 @@ static void build(struct machine *m, const struct fill *f) {
             for (unsigned k = 0; k < f->pages; k++) {
                 uint64_t frame = slot * f->pages + k, page = page_of(f, slot, k);
                 uint64_t entry[ROW_WORDS] = { row + 1, page, frame };
-                memcpy(w + ENTRIES_AT + (entries - 1 - (p * frames + frame)) * ROW_WORDS, entry, sizeof entry);
+                memcpy(w + ENTRIES_AT + entry_row(f, p * frames + frame, entries) * ROW_WORDS, entry, sizeof entry);
                 uint64_t backing[BACKING_WORDS] = { 1, f->processes };
                 memcpy(w + BACKINGS_AT + frame * BACKING_WORDS, backing, sizeof backing);
                 /* The lowest pages are mapped, in page order. */
@@ -147,10 +153,23 @@ static uint64_t clone_region(struct machine *m, unsigned k) { return machine_ope
 
 static uint64_t clone(struct machine *m, unsigned k) { (void)k; return machine_open(LENT(m), BASE, ARENA, out, 1) + machine_clone(LENT(m), 0, out[0]); }
 
-/* By number: a fault, a carve, eager populate. */
+/* By number: a fault, a carve, eager populate, a creation at the lowest start. */
 static uint64_t by_number(struct machine *m, unsigned k) {
-    const uint64_t asked[][4] = { { MACHINE_CALL_FAULT, 0, place(0), 1 }, { MACHINE_CALL_CARVE, 0, BASE + PAGE, BASE + 2 * PAGE }, { MACHINE_CALL_EAGER, 0 } };
-    return machine_call(LENT(m), asked[k], k == 2 ? 2 : 4, out, MACHINE_REGIONS);
+    static const size_t sizes[] = { 4, 4, 2, 9 };
+    const uint64_t asked[][9] = {
+        { MACHINE_CALL_FAULT, 0, place(0), 1 },
+        { MACHINE_CALL_CARVE, 0, BASE + PAGE, BASE + 2 * PAGE },
+        { MACHINE_CALL_EAGER, 0 },
+        { MACHINE_CALL_CREATE_PRIVATE, 0, 0, 0, 0, 3 * PAGE, 7, 0, 0 },
+    };
+    return machine_call(LENT(m), asked[k], sizes[k], out, MACHINE_REGIONS);
+}
+
+/* The same three, with one test for all; the number of the last. */
+static uint64_t many(struct machine *m, unsigned k) {
+    const uint64_t asked[] = { 4, MACHINE_CALL_FAULT, 0, place(k), 1, 4, MACHINE_CALL_CARVE, 0, BASE + PAGE, BASE + 2 * PAGE, 2, MACHINE_CALL_EAGER, 0 };
+    static uint64_t rows[3 * MACHINE_ROW];
+    return machine_run(LENT(m), asked, sizeof asked / sizeof *asked, rows, 3 * MACHINE_ROW) != 3 || rows[2 * MACHINE_ROW] != 0;
 }
 
 static const struct export {
@@ -181,8 +200,9 @@ static const struct export {
     { "machine_clone_region", clone_region },
     { "machine_clone", clone },
     { "machine_call", by_number },
+    { "machine_run", many },
 };
-enum { EXPORTS = sizeof exports / sizeof *exports, VARIATIONS = 3 };
+enum { EXPORTS = sizeof exports / sizeof *exports, VARIATIONS = 4 };
 
 /* ---- the painted stack */
 
@@ -218,6 +238,12 @@ int main(void) {
             fprintf(stderr, "stack: the machine '%s' is not sound\n", fills[i].name);
             return 2;
         }
+    }
+    /* The new region must lie past all 63. */
+    tried = built[FILLS - 2];
+    if (create_shared(&tried, 0) != 0 || out[0] != BASE + 63ull * (PAGES + 1) * PAGE - PAGE) {
+        fprintf(stderr, "stack: creation did not start over\n");
+        return 2;
     }
     tried = built[0];
     size_t base = painted(nothing, 0);

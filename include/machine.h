@@ -22,6 +22,7 @@
 #define MACHINE_WORDS 11844
 #define MACHINE_FRAME 4096
 #define MACHINE_REGIONS 65
+#define MACHINE_ROW 66
 
 /* The number of each call, and the arguments that machine_call takes for it. `given`, `eager`, `copy`, `thread` and `write` are 0 or 1. */
 #define MACHINE_CALL_START 0           /* rows, three words a file */
@@ -167,6 +168,14 @@ uint64_t machine_store(const uint64_t *words, size_t words_len, uint8_t *frames,
  * call: where the number is none, where the arguments are not as many, where a flag is neither 0 nor 1 or a byte is above 255. */
 uint64_t machine_call(uint64_t *words, size_t words_len, uint8_t *frames, size_t frames_len, const uint8_t *files, size_t files_len,
                       const uint64_t *call, size_t call_len, uint64_t *out, size_t out_len);
+
+/* Many calls with one soundness test for all: every call keeps the rules, so that a test before each would say the same. `calls` has, for each
+ * call, how many words it is and then these words, as machine_call takes them, start too: 4, MACHINE_CALL_FAULT, process, addr, write. Each
+ * answer is MACHINE_ROW words of `answers`: the number that machine_call answers, then its `out`, zeros where the words are no call. Answers how
+ * many calls ran: all that stand there whole, up to the first that does not, and no more than `answers` has rows for; what stands behind
+ * these rows stays. A refusal ends nothing. Where the memory is no sound machine every call is refused 1, up to a start that is granted. */
+uint64_t machine_run(uint64_t *words, size_t words_len, uint8_t *frames, size_t frames_len, const uint8_t *files, size_t files_len,
+                     const uint64_t *calls, size_t calls_len, uint64_t *answers, size_t answers_len);
 
 #ifdef __cplusplus
 }

@@ -5,4 +5,3 @@ pub mod FramesOn
 pub mod FramesOnLaws
 pub mod LookupsOn
 pub mod LookupsOnLaws
-pub mod StepsLaws

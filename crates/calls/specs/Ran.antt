@@ -13,6 +13,7 @@ use Rattle.model.specs.declared.Done.the-variants.{No}
 use Rattle.model.specs.Answers.{Reply}
 use Rattle.model.specs.Meant.{meant, reply, refused, counts}
 use Rattle.model.specs.Run.{call}
+use Rattle.step.specs.Kind.{kindOf, kindFor}
 use Rattle.calls.specs.Answered.{answerOn, Leaves}
 
 -- where starts are listed and there are none: zeros
@@ -35,6 +36,8 @@ pub record Ran (c : Call) (words frames files starts words' frames' starts' : Li
   -- answer and memory are the definition's
   pub answer : length starts ≡ 64 → reply r starts' ≡ replyOn c words frames files
   pub leaves : length starts ≡ 64 → Leaves (λ s. call (meant c) s) words frames files words' frames'
+  -- told by the variant of the call's answers
+  pub kind : kindOf r ≡ kindFor c
   -- only a call that lists starts writes them
   pub others : counts r ≡ false → starts' ≡ starts
   -- memory for another number of starts: BadTable, and everything as it was

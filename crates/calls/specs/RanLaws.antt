@@ -20,6 +20,8 @@ use Rattle.model.specs.Run.{call, replying}
 use Rattle.model.specs.SoundTest.{soundb}
 use Rattle.rows.specs.LentMemory.{stateOf, OnSound, DoesWith, DoesWords}
 use Rattle.regions.specs.Starts.{withStarts}
+use Rattle.step.specs.Kind.{kindOf, kindFor}
+use Rattle.step.specs.KindLaws.{one-answer}
 use Rattle.step.specs.StepLaws.{regions-looked}
 use Rattle.soundness.specs.SoundLent.{soundLent}
 use Rattle.calls.specs.Answered.{answerOn, Leaves}
@@ -28,7 +30,7 @@ use Rattle.calls.specs.UnsoundLaws as un
 use Rattle.calls.specs.Ran.{Ran, replyOn, noStarts, noneFor, startsRefused}
 
 -- any call refuses an unsound machine, in the shape of its answer
-any-unsound : (c : Call) (s : State) → soundb s ≡ false → call (meant c) s ≡ leaving (reply (refused c BadTable) noStarts) s
+pub any-unsound : (c : Call) (s : State) → soundb s ≡ false → call (meant c) s ≡ leaving (reply (refused c BadTable) noStarts) s
 unfolding call meant reply refused notListed
 any-unsound asks.Sound s e = ap (replying ofDone) (un.sound-unsound s e)
 any-unsound (asks.Open a size) s e = ap (replying ofOpened) (un.open-unsound s e (a .0) size)
@@ -65,15 +67,17 @@ told-anyhow (says.Counted r) l m e = absurd (true≢false e)
 
 module _ (c : Call) (w f b starts : List ℕ) where
   pub ran-short : (length starts ≡ 64 → ⊥) → (r : Answer) → r ≡ refused c BadTable → Ran c w f b starts w f starts r
-  ran-short k r e = record { answer = λ h. absurd (k h); leaves = λ h. absurd (k h); others = λ _. refl; short = λ _. (e, (refl, (refl, refl))) }
+  unfolding kindFor
+  ran-short k r e = record { answer = λ h. absurd (k h); leaves = λ h. absurd (k h); kind = ap kindOf e; others = λ _. refl; short = λ _. (e, (refl, (refl, refl))) }
 
   pub ran-unsound : length starts ≡ 64 → soundLent w f b ≡ false → (r : Answer) → r ≡ refused c BadTable → (starts' : List ℕ) → starts' ≡ startsRefused (counts r) starts → Ran c w f b starts w f starts' r
-  unfolding replyOn
+  unfolding replyOn kindFor
   ran-unsound h e r is starts' put =
       let whole = refused-whole (λ why. reply (refused c why) noStarts) (λ s. call (meant c) s) (any-unsound c) w f b e in
       record {
         answer = λ _. same (counts r) refl ∙ ap (λ (x : Answer). reply x noStarts) is ∙ whole .0;
         leaves = λ _. whole .1;
+        kind = ap kindOf is;
         others = λ q. put ∙ ap (λ (y : Bool). startsRefused y starts) q;
         short = λ k. absurd (k h);
       }
@@ -83,11 +87,15 @@ module _ (c : Call) (w f b starts : List ℕ) where
       same false q = told-anyhow r starts' noStarts q
 
   pub ran-sound : length starts ≡ 64 → soundLent w f b ≡ true → (r : Answer) (w' f' starts' : List ℕ)
-      → DoesWith (λ s. call (meant c) s) w f b w' f' (reply r starts') → (counts r ≡ false → starts' ≡ starts) → Ran c w f b starts w' f' starts' r
+      → DoesWith (λ s. call (meant c) s) w f b w' f' (reply r starts') → (counts r ≡ false → starts' ≡ starts) → kindOf r ≡ kindFor c → Ran c w f b starts w' f' starts' r
   unfolding replyOn
-  ran-sound h e r w' f' starts' does other =
+  ran-sound h e r w' f' starts' does other of =
       let whole = done-with w f b e (λ why. reply (refused c why) noStarts) (λ s. call (meant c) s) (reply r starts') w' f' does in
-      record { answer = λ _. whole .0; leaves = λ _. whole .1; others = other; short = λ k. absurd (k h) }
+      record { answer = λ _. whole .0; leaves = λ _. whole .1; kind = of; others = other; short = λ k. absurd (k h) }
+
+-- the contract leaves one answer
+pub ran-once : (c : Call) (w f b starts w' f' starts' : List ℕ) (r q : Answer) → Ran c w f b starts w' f' starts' r → Ran c w f b starts w' f' starts' q → length starts ≡ 64 → r ≡ q
+ran-once c w f b starts w' f' starts' r q x y h = one-answer r q starts' starts' (x .kind ∙ sym (y .kind)) (x .answer h ∙ sym (y .answer h))
 
 -- ---- the two calls that list starts, by their own functions
 
@@ -99,10 +107,10 @@ module _ (c : Call) (lists : refused c BadTable ≡ says.Counted (noneFor BadTab
   unfolding counts
   list-unsound h e r is starts' put = ran-unsound c w f b starts h e (says.Counted r) (ap says.Counted is ∙ sym lists) starts' put
 
-module _ (t : State → After Listed) (c : Call) (means : (s : State) → call (meant c) s ≡ replying ofListed (t s)) (w f b starts : List ℕ) where
+module _ (t : State → After Listed) (c : Call) (lists : refused c BadTable ≡ says.Counted (noneFor BadTable)) (means : (s : State) → call (meant c) s ≡ replying ofListed (t s)) (w f b starts : List ℕ) where
   list-sound : length starts ≡ 64 → soundLent w f b ≡ true → (r : Counted) (w' starts' : List ℕ) → t (stateOf w f b) ≡ leaving (withStarts r starts') (stateOf w' f b) → Ran c w f b starts w' f starts' (says.Counted r)
-  unfolding reply counts
-  list-sound h e r w' starts' does = ran-sound c w f b starts h e (says.Counted r) w' f starts' (means (stateOf w f b) ∙ ap (replying ofListed) does) (λ x. absurd (true≢false x))
+  unfolding reply counts kindOf kindFor
+  list-sound h e r w' starts' does = ran-sound c w f b starts h e (says.Counted r) w' f starts' (means (stateOf w f b) ∙ ap (replying ofListed) does) (λ x. absurd (true≢false x)) (sym (ap kindOf lists))
 
 module _ (w f b starts : List ℕ) where
   module _ (p : ℕ) where
@@ -115,8 +123,8 @@ module _ (w f b starts : List ℕ) where
     regions-unsound h e r is starts' put = list-unsound (asks.Regions p) refl w f b starts h e r is starts' put
 
     pub regions-sound : length starts ≡ 64 → soundLent w f b ≡ true → (r : Counted) (starts' : List ℕ) → OnSound (λ s. calls.regions s p) w (withStarts r starts') → Ran (asks.Regions p) w f b starts w f starts' (says.Counted r)
-    unfolding call meant
-    regions-sound h e r starts' on = list-sound (λ s. calls.regions s p) (asks.Regions p) (λ s. refl) w f b starts h e r w starts' (regions-looked (stateOf w f b) p (withStarts r starts') (on f b (sound-state w f b e)))
+    unfolding call meant refused
+    regions-sound h e r starts' on = list-sound (λ s. calls.regions s p) (asks.Regions p) refl (λ s. refl) w f b starts h e r w starts' (regions-looked (stateOf w f b) p (withStarts r starts') (on f b (sound-state w f b e)))
 
   module _ (p a end : ℕ) where
     pub carve-short : (length starts ≡ 64 → ⊥) → (r : Counted) → r ≡ noneFor BadTable → Ran (asks.Carve p a end) w f b starts w f starts (says.Counted r)
@@ -128,5 +136,5 @@ module _ (w f b starts : List ℕ) where
     carve-unsound h e r is starts' put = list-unsound (asks.Carve p a end) refl w f b starts h e r is starts' put
 
     pub carve-sound : length starts ≡ 64 → soundLent w f b ≡ true → (r : Counted) (w' starts' : List ℕ) → DoesWords (λ s. calls.carve s p a end) w w' (withStarts r starts') → Ran (asks.Carve p a end) w f b starts w' f starts' (says.Counted r)
-    unfolding call meant
-    carve-sound h e r w' starts' does = list-sound (λ s. calls.carve s p a end) (asks.Carve p a end) (λ s. refl) w f b starts h e r w' starts' (does f b (sound-state w f b e))
+    unfolding call meant refused
+    carve-sound h e r w' starts' does = list-sound (λ s. calls.carve s p a end) (asks.Carve p a end) refl (λ s. refl) w f b starts h e r w' starts' (does f b (sound-state w f b e))

@@ -4,3 +4,4 @@ pub mod CalledLaws
 pub mod Numbers
 pub mod Out
 pub mod OutLaws
+pub mod RunLaws

@@ -1,10 +1,9 @@
 -- Laws of `Out`: what an exported call returns and writes: number and values (RULES E, O1); where `out` is of another length, 1 and nothing written.
 use mathlib.Core.Path.{_≡_, refl, ap, subst, _∙_}
-use mathlib.Core.List.{List, [], _∷_, _++_, append-nil}
-use Prim.Native.Nat.{ℕ, _-_}
+use mathlib.Core.List.{List, [], _∷_}
+use Prim.Native.Nat.{ℕ}
 use native.Mathlib.Omega.{arith}
-use lib.ListN.{length, set, take, drop, drop-of-length-le}
-use lib.Seq.{take-length}
+use lib.ListN.{length, set}
 use Rattle.model.specs.Machine.{State}
 use Rattle.model.specs.declared.Placed.{Placed}
 use Rattle.model.specs.declared.Placed.the-variants as placed
@@ -16,6 +15,7 @@ use Rattle.model.specs.Meant.{meant, reply}
 use Rattle.model.specs.Run.{call}
 use Rattle.calls.specs.Answered.{answerOn, Leaves}
 use Rattle.calls.specs.Ran.{Ran, replyOn}
+use Rattle.call_rows.specs.BehindLaws.{behind, withBehind, behind-all, with-behind}
 use Rattle.machine_c.specs.Out.{Told, LeavesOut}
 
 module _ (reply : Reply) (n r : ℕ) (out out' : List ℕ) where
@@ -32,12 +32,6 @@ module _ {A : Type 0} (call : State → After A) (n : ℕ) (out w f b : List ℕ
   pub left-alone : (length out ≡ n → ⊥) → LeavesOut call n out w f b w f
   left-alone k = record { machine = λ h. absurd (k h); other = λ _. (refl, refl) }
 
--- one word written into one
-pub one-word : (out : List ℕ) (v : ℕ) → length out ≡ 1 → set out 0 v ≡ v ∷ []
-one-word [] v e = let z : _≡_ {A = ℕ} 0 1 = e in absurd (omega arith)
-one-word (x ∷ []) v e = refl
-one-word (x ∷ y ∷ l) v e = absurd (omega arith)
-
 -- creation by what was worked out first: its place, its fork policy
 module _ {A : Type 0} (call : A → State → After Placed) (w f b : List ℕ) where
   pub placed-out :
@@ -53,22 +47,6 @@ module _ {A : Type 0} (call : A → State → After Placed) (w f b : List ℕ) w
   placed-out pl pl' e x n out out' w' f' h a l p q =
       subst (λ (y : A). Told (ofPlaced (answerOn placed.No (call y) w f b)) 1 n out out' × LeavesOut (call y) 1 out w f b w' f') e
       (told-all _ _ _ _ _ h (p ∙ ap (λ (z : Placed). ofPlaced z .number) a) (q ∙ ap (λ (z : Placed). ofPlaced z .values) a), left-out _ _ _ _ _ _ h _ _ l)
-
--- what stands behind the first word is lent, and comes back
-abbrev pub behind : List ℕ → List ℕ
-behind out = take (length out - 1) (drop 1 out)
-
-abbrev pub withBehind : List ℕ → List ℕ → List ℕ
-withBehind out l = take 1 out ++ (l ++ drop (length out - 1) (drop 1 out))
-
-one-less : (x : ℕ) (l : List ℕ) → length (x ∷ l) - 1 ≡ length l
-one-less x l = omega arith
-
-pub behind-all : (x : ℕ) (l : List ℕ) → behind (x ∷ l) ≡ l
-behind-all x l = ap (λ (n : ℕ). take n l) (one-less x l) ∙ take-length l
-
-pub with-behind : (x : ℕ) (l l' : List ℕ) (v : ℕ) → set (withBehind (x ∷ l) l') 0 v ≡ v ∷ l'
-with-behind x l l' v = ap (λ (t : List ℕ). v ∷ t) (ap (λ (n : ℕ). l' ++ drop n l) (one-less x l) ∙ ap (λ (t : List ℕ). l' ++ t) (drop-of-length-le l {i = length l} (omega arith)) ∙ append-nil l')
 
 -- a list, whose starts stand behind the count
 pub listed-out : (c : Call) (w f b w' f' out starts : List ℕ) (r : Counted) (n : ℕ) (out' : List ℕ) → length out ≡ 65

@@ -1,20 +1,21 @@
 // Any call, by its number and arguments as words.
 ghost use mathlib.Core.Path.{_≡_};
 ghost use mathlib.Core.Bool.{true};
-ghost use Prim.Native.Nat.{_≤_};
 ghost use lib.ListN.{length, drop, replicate};
 ghost use Rattle.laws.specs.Lists.{pad};
 ghost use Rattle.model.specs.Meant.{meant};
 ghost use Rattle.model.specs.Run.{call};
+ghost use Rattle.call_rows.specs.Asked.{startsWith};
+ghost use Rattle.call_runs.specs.RunAll.{RanAll};
 ghost use Rattle.calls.specs.Answered.{Leaves};
 ghost use Rattle.calls.specs.Ran.{replyOn};
 ghost use Rattle.machine_c.specs.Out.{StartTold};
-ghost use Rattle.machine_c.specs.Called.{callIn, startsWith, CallTold};
-use crate::told::tell_answer;
-use crate::told::tell_done;
+ghost use Rattle.machine_c.specs.Called.{CallTold};
+use call_rows::asked::call_in;
+use call_rows::asked::is_start;
+use call_rows::told::tell_answer;
+use call_rows::told::tell_done;
 use call_words::Numbered;
-use call_words::argument_count;
-use call_words::call_of;
 use model::Call;
 use regions::list::put_zeros;
 
@@ -42,14 +43,19 @@ pub extern "C" fn machine_call(
     }
 }
 
-// Whether words begin with the number of start.
-fn is_start(call: &[u64]) -> bool
-    ensures { λ r. ⌜ r ≡ startsWith (now (call .entry)) ⌝ }
+// Many calls with one soundness test: each as how many words it has, then the words that machine_call takes. Answers how many ran; each
+// answer is a row of 66 words, the number that machine_call gives and its `out`, and a call whose row has no room does not run.
+#[no_mangle]
+pub extern "C" fn machine_run(
+    words: &mut [u64],
+    frames: &mut [u8],
+    files: &[u8],
+    calls: &[u64],
+    answers: &mut [u64],
+) -> u64
+    ensures { λ r. ⌜ RanAll (now (calls .entry)) (now (words .entry)) (now (frames .entry)) (now (files .entry)) (now (answers .entry)) (now (words .exit)) (now (frames .exit)) (now (answers .exit)) r ⌝ }
 {
-    if call.len() == 0 {
-        return false;
-    }
-    call[0] == 0
+    call_runs::run_all(words, frames, files, calls, answers) as u64
 }
 
 // Start, with the rows behind its number.
@@ -61,34 +67,6 @@ fn start_call(words: &mut [u64], frames: &[u8], files: &[u8], call: &[u64], out:
 {
     put_nothing(out);
     tell_done(calls::start(words, frames, files, &call[1..]))
-}
-
-// The call that words name.
-fn call_in(call: &[u64]) -> Numbered
-    ensures { λ r. ⌜ r ≡ callIn (now (call .entry)) ⌝ }
-{
-    if call.len() == 0 {
-        return Numbered::None;
-    }
-    let number = call[0];
-    if call.len() - 1 != argument_count(number) {
-        return Numbered::None;
-    }
-    call_of(number, arguments(&call[1..]))
-}
-
-// Ten arguments: those that are given, then zeros.
-fn arguments(given: &[u64]) -> [u64; 10]
-    requires { ⌜ length (now given) ≤ 10 ⌝ }
-    ensures { λ r. ⌜ r ≡ pad 10 0 (now (given .entry)) ⌝ }
-{
-    let mut args = [0; 10];
-    let mut i = 0;
-    while i < given.len() {
-        args[i] = given[i];
-        i += 1;
-    }
-    args
 }
 
 // Runs a call and tells its answer.

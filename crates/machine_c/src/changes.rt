@@ -9,9 +9,9 @@ ghost use Rattle.model.specs.Run.{call};
 ghost use Rattle.calls.specs.Answered.{answerOn, Leaves};
 ghost use Rattle.calls.specs.Ran.{replyOn};
 ghost use Rattle.machine_c.specs.Out.{Told, LeavesOut};
-use crate::told::tell_counted;
-use crate::told::tell_done;
 use address::VirtAddr;
+use call_rows::told::tell_counted;
+use call_rows::told::tell_done;
 
 // Removes the region at an address; a pinned one goes with its last pin.
 #[no_mangle]

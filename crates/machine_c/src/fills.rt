@@ -6,8 +6,8 @@ ghost use Rattle.model.specs.declared.Done.the-variants as done;
 ghost use Rattle.model.specs.Answers.{ofDone};
 ghost use Rattle.model.specs.Calls as model;
 ghost use Rattle.calls.specs.Answered.{answerOn, Leaves};
-use crate::told::tell_done;
 use address::VirtAddr;
+use call_rows::told::tell_done;
 
 // A fault at an address, a write where `write` is not 0.
 #[no_mangle]

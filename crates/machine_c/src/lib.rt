@@ -23,19 +23,18 @@ ghost use Rattle.machine_c.specs.Out.{Told, LeavesOut, StartTold};
 mod call;
 mod changes;
 mod fills;
-mod told;
 
 use address::VirtAddr;
+use call_rows::told::tell_counted;
+use call_rows::told::tell_covering;
+use call_rows::told::tell_done;
+use call_rows::told::tell_loaded;
+use call_rows::told::tell_opened;
+use call_rows::told::tell_placed;
 use model::ForkPolicy;
 use model::Place;
 use model::Population;
 use soundness::is_sound;
-use told::tell_counted;
-use told::tell_covering;
-use told::tell_done;
-use told::tell_loaded;
-use told::tell_opened;
-use told::tell_placed;
 
 // Whether the memory is a sound machine: 0, or 1, BadTable.
 #[no_mangle]

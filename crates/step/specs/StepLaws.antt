@@ -25,6 +25,7 @@ use Rattle.rows.specs.GuardedLaws.{granted}
 use Rattle.rows.specs.LentMemory.{stateOf, SoundWords, SoundFrames}
 use Rattle.lookup.specs.FirstOfLaws.{first-none}
 use Rattle.regions.specs.Starts.{withStarts}
+use Rattle.step.specs.Kind.{kindOf, kindFor}
 
 -- ---- what a core is called on
 
@@ -88,11 +89,16 @@ module _ {A : Type 0} (f : A → Reply) (asked k : Call) (told : asked ≡ k) (s
   goes : (x : Reply) → x ≡ f r → call (meant asked) s ≡ leaving x s'
   goes x e = ap (λ (c : Call). call (meant c) s) told ∙ means ∙ ap (replying f) does ∙ (λ i. leaving (sym e i) s')
 
-  pub stepped : (x : Answer) (starts : List ℕ) → reply x starts ≡ f r → (call (meant asked) s ≡ leaving (reply x starts) s') × (counts x ≡ false → starts ≡ starts)
-  stepped x starts e = (goes (reply x starts) e, λ _. refl)
+  pub stepped :
+      (x : Answer) (starts : List ℕ) → reply x starts ≡ f r → kindOf x ≡ kindFor k
+      → (call (meant asked) s ≡ leaving (reply x starts) s') × ((counts x ≡ false → starts ≡ starts) × (kindOf x ≡ kindFor asked))
+  stepped x starts e of = (goes (reply x starts) e, (λ _. refl, of ∙ ap kindFor (sym told)))
 
 -- a call that lists starts
-pub listed : (asked k : Call) → asked ≡ k → (s s' : State) (t : After Listed) (n : Counted) (starts starts₀ : List ℕ) → t ≡ leaving (withStarts n starts) s' → call (meant k) s ≡ replying ofListed t
-    → (call (meant asked) s ≡ leaving (reply (says.Counted n) starts) s') × (counts (says.Counted n) ≡ false → starts ≡ starts₀)
+pub listed :
+    (asked k : Call) → asked ≡ k → (s s' : State) (t : After Listed) (n : Counted) (starts starts₀ : List ℕ)
+    → t ≡ leaving (withStarts n starts) s' → call (meant k) s ≡ replying ofListed t → kindOf (says.Counted n) ≡ kindFor k
+    → (call (meant asked) s ≡ leaving (reply (says.Counted n) starts) s') × ((counts (says.Counted n) ≡ false → starts ≡ starts₀) × (kindOf (says.Counted n) ≡ kindFor asked))
 unfolding reply counts
-listed asked k told s s' t n starts starts₀ does means = (goes ofListed asked k told s s' t (withStarts n starts) does means (reply (says.Counted n) starts) refl, λ x. absurd (true≢false x))
+listed asked k told s s' t n starts starts₀ does means of =
+    (goes ofListed asked k told s s' t (withStarts n starts) does means (reply (says.Counted n) starts) refl, (λ x. absurd (true≢false x), of ∙ ap kindFor (sym told)))

@@ -9,6 +9,7 @@ ghost use Rattle.model.specs.SoundTest.{soundb};
 ghost use Rattle.model.specs.Run.{call};
 ghost use Rattle.model.specs.Meant.{meant, reply, counts};
 ghost use Rattle.rows.specs.LentMemory.{stateOf, DoesWith};
+ghost use Rattle.step.specs.Kind.{kindOf, kindFor};
 use access::load_core;
 use access::store_core;
 use carve::core::carve_core;
@@ -47,6 +48,7 @@ pub fn step(
     requires { ⌜ soundb (stateOf (now words) (now frames) (now files)) ≡ true ⌝ }
     ensures { λ r. ⌜ DoesWith (λ s. call (meant asked) s) (now (words .entry)) (now (frames .entry)) (now (files .entry)) (now (words .exit)) (now (frames .exit)) (reply r (now (starts .exit))) ⌝ }
     ensures { λ r. ⌜ (counts r ≡ false → now (starts .exit) ≡ now (starts .entry)) ⌝ }
+    ensures { λ r. ⌜ kindOf r ≡ kindFor asked ⌝ }
 {
     match asked {
         Call::Sound => Answer::Done(Done::Yes),

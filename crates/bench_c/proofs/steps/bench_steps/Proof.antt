@@ -9,7 +9,7 @@ use borrow.Author.Needs.{needs}
 use Rattle.model.specs.SoundTest.{soundb}
 use Rattle.rows.specs.LentMemory.{stateOf}
 use Rattle.calls.specs.AnsweredLaws.{sound-length, sound-state}
-use Rattle.bench_c.specs.StepsLaws.{sound-stays}
+use Rattle.call_runs.specs.OneLaws.{sound-stays}
 use Rattle.bench_c.proofs.steps.bench_steps.Statement.{statement}
 use Rattle.bench_c.proofs.steps.bench_steps.Tie as tie
 
@@ -71,7 +71,7 @@ wrapping-add-u64-requires : tie.Need-wrapping-add-u64-requires Inv-loop μ-loop
 wrapping-add-u64-requires c κs = search needs
 
 add-at : tie.Need-add-at Inv-loop μ-loop
-add-at c = omega arith
+add-at c = let good = c .before .before .before .before .before .before .before .before .before .before .before .before .before .before .before .before .before .before .before .before .before .before .before .before .before .before .before .before .good .1 .1 .1 .1 .0 in omega (arith, good)
 
 loop-less : tie.Need-loop-less Inv-loop μ-loop
 loop-less c = omega arith

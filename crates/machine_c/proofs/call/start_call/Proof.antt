@@ -1,5 +1,6 @@
 -- `start_call`: what start answers, as a number; zeros.
-use Rattle.machine_c.specs.CalledLaws.{started, start-told}
+use Rattle.call_rows.specs.AskedLaws.{started}
+use Rattle.machine_c.specs.CalledLaws.{start-told}
 use borrow.Author.Needs.{needs}
 use Rattle.machine_c.proofs.call.start_call.Statement.{statement}
 use Rattle.machine_c.proofs.call.start_call.Tie as tie

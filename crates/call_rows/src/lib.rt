@@ -1,0 +1,3 @@
+// Calls and answers as words: which call words name, and what of an answer stands where.
+pub mod asked;
+pub mod told;
