@@ -86,10 +86,10 @@ mod timed {
             amounts.processes * amounts.regions,
             amounts.processes * amounts.regions * amounts.entries,
             amounts.processes * amounts.regions * amounts.mapped,
-            text(load, 0),
+            text(Some(load), 0),
             text(bare, 1),
             sound / rust,
-            text(load.map(|load| load / rust), 0),
+            text(Some(load / rust), 0),
             text(bare.map(|bare| bare / rust), 2),
         );
     }
@@ -154,21 +154,14 @@ mod timed {
         }
     }
 
-    #[cfg(proved_machine_calls)]
-    fn checked_load(lent: &Lent, p: u64, addr: u64, refused: bool) -> Option<f64> {
+    fn checked_load(lent: &Lent, p: u64, addr: u64, refused: bool) -> f64 {
         let mut lent = lent.clone();
         let call = MachineCall::Load { p, addr };
-        Some(least(|| {
+        least(|| {
             let mut out = [0];
             let number = lent.ask(black_box(&call), &[], &mut out);
             assert!(refused || (number == 0 && out[0] == 7));
-        }))
-    }
-
-    /// The library has no calls yet.
-    #[cfg(not(proved_machine_calls))]
-    fn checked_load(_: &Lent, _: u64, _: u64, _: bool) -> Option<f64> {
-        None
+        })
     }
 
     /// A load's core without the test: a page's loads with one test for all, less the test.

@@ -17,9 +17,8 @@ mod timed {
     use std::hint::black_box;
     use std::time::Instant;
 
+    use jhilkompa::segments::{self, Manager};
     use kernel_virtual_memory::{Segment, VirtualMemoryManager};
-    use oracle::calls::ManagerCall;
-    use oracle::manager::{ProvedManager, RESULTS};
     use x86_64::VirtAddr;
 
     const ROUNDS: usize = 25;
@@ -45,12 +44,10 @@ mod timed {
             assert!(rust.release(got));
         });
         let new = least(|| {
-            let mut out = [0; RESULTS];
-            let len = black_box(PAGE);
-            let reserved = proved.ask(&ManagerCall::Reserve { len }, &mut out);
-            let start = out[0];
-            let released = proved.ask(&ManagerCall::Release { start, len }, &mut out);
-            assert!(reserved == 0 && released == 0 && out[0] == 1);
+            let got = proved
+                .reserve_bytes(black_box(PAGE))
+                .expect("there is room");
+            assert_eq!(proved.release(got.segment), Ok(true));
         });
         let way = if in_the_way { held } else { 0 };
         println!(
@@ -60,20 +57,16 @@ mod timed {
     }
 
     /// Both managers with the same segments: a row of pages from the arena's start, or from its second page on.
-    fn managers(held: u64, in_the_way: bool) -> (VirtualMemoryManager, ProvedManager) {
+    fn managers(held: u64, in_the_way: bool) -> (VirtualMemoryManager, Manager) {
         let mut rust = VirtualMemoryManager::new(VirtAddr::new(ARENA), SIZE);
-        let mut proved = ProvedManager::default();
-        let arena = ManagerCall::Manager {
-            start: ARENA,
-            size: SIZE,
-        };
-        assert_eq!(proved.ask(&arena, &mut [0; RESULTS]), 0);
+        let arena = jhilkompa::VirtAddr(ARENA);
+        let mut proved = Manager::new(arena, SIZE).expect("an arena");
         let first = if in_the_way { ARENA } else { ARENA + PAGE };
         for start in (0..held).map(|i| first + PAGE * i) {
             rust.mark_as_reserved(Segment::new(VirtAddr::new(start), PAGE))
                 .expect("the rows are disjoint");
-            let mark = ManagerCall::Mark { start, len: PAGE };
-            assert_eq!(proved.ask(&mark, &mut [0; RESULTS]), 0);
+            let segment = segments::Segment::new(jhilkompa::VirtAddr(start), PAGE);
+            assert_eq!(proved.mark_as_reserved(segment), Ok(()));
         }
         (rust, proved)
     }

@@ -2,79 +2,7 @@
 
 use std::fmt;
 
-/// The refusals of the rules (RULES E) with their numbers.
-#[derive(Clone, Copy, Debug, PartialEq, Eq, PartialOrd, Ord)]
-#[repr(u8)]
-pub enum Refusal {
-    BadTable = 1,
-    NoProcess,
-    BadAddress,
-    BadRange,
-    BadFlags,
-    NoFile,
-    NoRegion,
-    NoSpace,
-    SegmentReserved,
-    InvalidSplitPoint,
-    NotReserved,
-    NotAccessible,
-    NotWritable,
-    OutOfMemory,
-    ReadFailed,
-    MapFailed,
-    UnsupportedRegion,
-    EagerBacking,
-    Shared,
-    InUse,
-    TableFull,
-    Denied,
-}
-
-use Refusal::*;
-
-const ALL: [Refusal; 22] = [
-    BadTable,
-    NoProcess,
-    BadAddress,
-    BadRange,
-    BadFlags,
-    NoFile,
-    NoRegion,
-    NoSpace,
-    SegmentReserved,
-    InvalidSplitPoint,
-    NotReserved,
-    NotAccessible,
-    NotWritable,
-    OutOfMemory,
-    ReadFailed,
-    MapFailed,
-    UnsupportedRegion,
-    EagerBacking,
-    Shared,
-    InUse,
-    TableFull,
-    Denied,
-];
-
-impl Refusal {
-    #[must_use]
-    pub fn number(self) -> u8 {
-        self as u8
-    }
-
-    #[must_use]
-    pub fn from_number(number: u64) -> Option<Self> {
-        ALL.into_iter()
-            .find(|refusal| u64::from(refusal.number()) == number)
-    }
-
-    /// Whether a comparison with the Rust ends here: the answers 1 to 6, 16 and 21.
-    #[must_use]
-    pub fn ends_comparison(self) -> bool {
-        self <= NoFile || self == MapFailed || self == TableFull
-    }
-}
+pub use jhilkompa::Refusal;
 
 #[derive(Clone, Copy, Debug, PartialEq, Eq)]
 pub enum Value {
@@ -128,10 +56,15 @@ impl Answer {
         )
     }
 
+    /// Whether a comparison with the Rust ends here.
     #[must_use]
     pub fn ends_comparison(&self) -> bool {
         match self {
-            Self::No(refusal) => refusal.ends_comparison(),
+            // the answers 1 to 6, 16 and 21
+            Self::No(refusal) => {
+                *refusal <= Refusal::NoFile
+                    || matches!(refusal, Refusal::MapFailed | Refusal::TableFull)
+            }
             Self::Panic(_) | Self::Broken(_) => true,
             Self::Ok(_) | Self::State(_) => false,
         }

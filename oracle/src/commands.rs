@@ -92,21 +92,21 @@ pub fn compare(words: &[&str]) -> Done {
 
 /// Whether the library of this answerer has what it takes.
 fn is_linked(second: &Second) -> bool {
-    cfg!(proved_machine_calls) || !matches!(second, Second::ProvedMachine)
+    cfg!(proved_machine) || !matches!(second, Second::ProvedMachine)
 }
 
 fn agreed(totals: Totals) -> String {
     format!("{totals}, no difference{}", totals.counts)
 }
 
-#[cfg(proved_machine_calls)]
+#[cfg(proved_machine)]
 fn proved_machine(seed: u64, calls: usize) -> Result<String, String> {
     compare_machines(seed, calls, oracle::proved::ProvedMachine::default)
         .map(agreed)
         .map_err(|finding| finding.to_string())
 }
 
-#[cfg(not(proved_machine_calls))]
+#[cfg(not(proved_machine))]
 fn proved_machine(_: u64, _: usize) -> Result<String, String> {
     Err(NOT_LINKED.into())
 }

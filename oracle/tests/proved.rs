@@ -1,11 +1,13 @@
 //! The proved machine answers as the oracle's does.
-#![cfg(proved_machine_calls)]
+#![cfg(proved_machine)]
 
 use oracle::answer::{Answer, Refusal};
 use oracle::calls::{Call, MachineCall, parse};
 use oracle::compare::compare_machines;
+use oracle::generate::MachineScript;
 use oracle::machine::Machine;
-use oracle::proved::{ProvedMachine, numbered};
+use oracle::proved::{ProvedMachine, typed};
+use oracle::words::{FRAME_BYTES, decode};
 
 #[test]
 fn random_sequences_agree() {
@@ -22,8 +24,8 @@ fn calls(text: &str) -> Vec<MachineCall> {
     text.lines().filter_map(call).collect()
 }
 
-/// Each list twice, once more with a call before it that changes nothing: so each of its calls goes by
-/// its name and by its number.
+/// Each list four times, with up to three calls before it that change nothing: so each of its calls goes by its method, as a value,
+/// in words and as a batch.
 #[test]
 fn lists_agree() {
     for list in [
@@ -32,7 +34,7 @@ fn lists_agree() {
         include_str!("../lists/points.calls"),
         include_str!("../lists/edges.calls"),
     ] {
-        for first in ["", "state\n"] {
+        for first in ["", "state\n", "state\nstate\n", "state\nstate\nstate\n"] {
             let (mut oracle, mut proved) = (Machine::new(true), ProvedMachine::default());
             calls(first).iter().for_each(|call| {
                 proved.answer(call);
@@ -44,49 +46,62 @@ fn lists_agree() {
     }
 }
 
+/// Sequences of 500 calls in one batch, one soundness test for all: the Rust's answers one by one, and the same state at the end.
+#[test]
+fn batches_agree() {
+    for seed in 1..=20 {
+        let mut sequence = MachineScript::new(seed).long_sequence(500).into_iter();
+        let Some(MachineCall::Start {
+            frames: frames @ ..=256,
+        }) = sequence.next()
+        else {
+            continue;
+        };
+        let calls = sequence.filter_map(|call| Some((typed(&call)?, call)));
+        let (typed, calls): (Vec<_>, Vec<_>) = calls.unzip();
+        let (mut oracle, mut files) = (Machine::new(true), Vec::new());
+        let script = MachineScript::files();
+        for call in &script {
+            oracle.answer(call);
+            if let MachineCall::File { readable, bytes } = call {
+                let readable = *readable;
+                files.push(jhilkompa::File { readable, bytes });
+            }
+        }
+        oracle.answer(&MachineCall::Start { frames });
+        let bytes = vec![0xa5; frames as usize * FRAME_BYTES];
+        let mut proved = jhilkompa::Machine::start_on(bytes, &files).expect("it starts");
+        for (answer, call) in proved.run(&typed).zip(&calls) {
+            assert_eq!(
+                Answer::from(answer.map(Answer::from)),
+                oracle.answer(call),
+                "seed {seed}: {call}"
+            );
+        }
+        let state = decode(proved.words(), proved.frames(), true);
+        assert_eq!(state, Ok(oracle.snapshot(true)), "seed {seed}");
+    }
+}
+
 #[test]
 fn a_region_takes_65535_pins() {
     let mut machine = ProvedMachine::default();
     for call in calls("start 1\nopen 0x1000 0x1000\ncreate 0 shared any 1") {
         machine.answer(&call);
     }
+    let (p, addr) = (0, 0x1000);
+    let (pin, unpin) = (MachineCall::Pin { p, addr }, MachineCall::Unpin { p, addr });
     for _ in 0..65_535 {
-        assert_eq!(machine.pin(0, 0x1000), Ok(()));
+        assert_eq!(machine.answer(&pin), Answer::done());
     }
-    for _ in 0..2 {
-        assert_eq!(machine.pin(0, 0x1000), Err(Refusal::TableFull));
+    for _ in 0..3 {
+        assert_eq!(machine.answer(&pin), Answer::No(Refusal::TableFull));
     }
-    assert_eq!(machine.remove(0, 0x1000), Ok(()));
+    let remove = MachineCall::Remove { p, addr };
+    assert_eq!(machine.answer(&remove), Answer::done());
     for _ in 0..65_535 {
-        assert_eq!(machine.unpin(0, 0x1000), Ok(()));
+        assert_eq!(machine.answer(&unpin), Answer::done());
     }
-    assert_eq!(machine.unpin(0, 0x1000), Err(Refusal::NoRegion));
+    assert_eq!(machine.answer(&unpin), Answer::No(Refusal::NoRegion));
     assert_eq!(machine.answer(&MachineCall::Close { p: 0 }), Answer::done());
-}
-
-/// The header's lines `#define MACHINE_CALL_NAME NUMBER /* ARGUMENTS */` are the calls in words.
-#[test]
-fn the_header_has_the_numbers_and_arguments() {
-    let lines = "open 0 0\nclose 0\ncreate 0 lazy any 1 7 cow -\n\
-                 create 0 file any 1 7 cow - 0 0 0\ncreate 0 shared any 1\nremove 0 0\nclear 0\n\
-                 carve 0 0 0\ncovers 0 0 0\nregion 0 0\nregions 0\nfault 0 0 r\n\
-                 populate 0 0 0 r\neager 0\nclone_region 0 0 0\nclone 0 0\nprotect 0 0 7\n\
-                 pin 0 0\nunpin 0 0\nload 0 0\nstore 0 0 0";
-    let given: Vec<(u64, usize)> = calls(lines)
-        .iter()
-        .map(|call| numbered(call, &[]))
-        .map(|words| (words[0], words.len() - 1))
-        .collect();
-    let header = include_str!("../../include/machine.h");
-    let named = |line: &str| {
-        let (name, rest) = line
-            .strip_prefix("#define MACHINE_CALL_")?
-            .split_once(' ')?;
-        let (number, arguments) = rest.split_once("/*")?;
-        let count = arguments.split(',').count();
-        let skipped = ["START", "SOUND"].contains(&name);
-        (!skipped).then_some((number.trim().parse().ok()?, count))
-    };
-    let named: Vec<(u64, usize)> = header.lines().filter_map(named).collect();
-    assert_eq!(given, named);
 }

@@ -4,9 +4,9 @@ use crate::answer::Answer;
 use crate::calls::MachineCall;
 use crate::machine::Snapshot;
 use crate::plain::PlainMachine;
-#[cfg(proved_machine_calls)]
+#[cfg(proved_machine)]
 use crate::proved::ProvedMachine;
-#[cfg(proved_machine_calls)]
+#[cfg(proved_machine)]
 use crate::words::FRAME_BYTES;
 
 /// A machine that answers beside the Rust's.
@@ -37,7 +37,7 @@ impl Second for PlainMachine {
     }
 }
 
-#[cfg(proved_machine_calls)]
+#[cfg(proved_machine)]
 impl Second for ProvedMachine {
     fn answer(&mut self, call: &MachineCall) -> Answer {
         self.answer(call)

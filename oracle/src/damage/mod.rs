@@ -2,7 +2,6 @@
 //! and that of `words::check`.
 
 mod change;
-#[cfg(proved_machine_calls)]
 mod refuse;
 mod source;
 
@@ -120,19 +119,8 @@ fn judge(lent: &Lent, random: &mut Random) -> Result<Judged, String> {
         let ours = broken.map_or_else(|| "sound".into(), |broken| broken.to_string());
         return Err(format!("the library answers {number}, the check: {ours}"));
     }
-    let calls = call_all(lent, broken.is_none(), random)?;
+    let calls = refuse::call_all(lent, broken.is_none(), random)?;
     Ok(Judged { broken, calls })
-}
-
-#[cfg(proved_machine_calls)]
-fn call_all(lent: &Lent, sound: bool, random: &mut Random) -> Result<usize, String> {
-    refuse::call_all(lent, sound, random)
-}
-
-/// The library has no calls yet.
-#[cfg(not(proved_machine_calls))]
-fn call_all(_: &Lent, _: bool, _: &mut Random) -> Result<usize, String> {
-    Ok(0)
 }
 
 /// Drops calls and changes while a difference stays.

@@ -1,6 +1,8 @@
 //! Each proved call on a damaged machine, by its own function and by its number: 1 and nothing changed
 //! where the machine is not sound; where it is, no 1, and a sound machine afterwards. One of them is also
-//! made without room for its results, and in words that are no call.
+//! made without room for its results, and in words that are no call. Then all of them in one batch.
+
+use jhilkompa::ROW;
 
 use crate::calls::{Create, Kind, MachineCall, Marks, Part};
 use crate::proved::{LIST, Lent, keeps, numbered, results};
@@ -32,7 +34,41 @@ pub fn call_all(lent: &Lent, sound: bool, random: &mut Random) -> Result<usize, 
     let trial = Trial { lent, sound, call };
     trial.without_room(&mut after)?;
     trial.no_call(random, &mut after)?;
-    Ok(2 * calls.len())
+    in_one_batch(lent, calls, random)
+}
+
+/// All the calls in one batch, a start anywhere among them: answers and memory are those of the calls one by one. One more has no
+/// room for its answer and does not run. Answers how many calls were made in all.
+fn in_one_batch(
+    lent: &Lent,
+    mut calls: Vec<MachineCall>,
+    random: &mut Random,
+) -> Result<usize, String> {
+    let count = calls.len();
+    calls.rotate_left(random.below(count as u64) as usize);
+    let (mut alone, mut at_once) = (lent.clone(), lent.clone());
+    let (mut words, mut rows) = (Vec::new(), Vec::new());
+    for call in &calls {
+        let (asked, mut out) = (numbered(call, &[]), [u64::MAX; LIST]);
+        rows.push(alone.ask_number(&asked, &mut out));
+        rows.extend(out);
+        words.push(asked.len() as u64);
+        words.extend(asked);
+    }
+    words.extend([1, 1]);
+    let mut answers = vec![u64::MAX; rows.len() + LIST];
+    let ran = at_once.run(&words, &mut answers);
+    let behind = answers.split_off(rows.len());
+    let left = behind.iter().all(|word| *word == u64::MAX);
+    if ran == count as u64 && left && answers == rows && at_once == alone {
+        return Ok(3 * count);
+    }
+    let first = answers.chunks(ROW).zip(rows.chunks(ROW));
+    let first = first.zip(&calls).find(|((ours, theirs), _)| ours != theirs);
+    Err(match first {
+        Some((_, call)) => format!("{call} answers otherwise in a batch"),
+        None => format!("a batch of {count} ran {ran}, or left another machine"),
+    })
 }
 
 /// A call on a machine.

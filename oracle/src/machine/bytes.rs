@@ -22,7 +22,7 @@ impl Machine {
     }
 
     /// The frame and the place in it, if the page is mapped with these rights.
-    fn granted(
+    pub(super) fn granted(
         &self,
         p: u64,
         addr: u64,

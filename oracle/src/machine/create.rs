@@ -49,7 +49,7 @@ impl Machine {
     }
 
     /// The region's segment, held in the process's manager until it is dropped.
-    fn reserve(&self, create: &Create) -> Result<OwnedSegment<'static>, Refusal> {
+    pub(super) fn reserve(&self, create: &Create) -> Result<OwnedSegment<'static>, Refusal> {
         let vmm = &self.at(create.p)?.vmm;
         let len = segment_len(create.size);
         match create.start {
@@ -62,7 +62,7 @@ impl Machine {
         }
     }
 
-    fn make(
+    pub(super) fn make(
         &self,
         create: &Create,
         segment: OwnedSegment<'static>,
@@ -132,7 +132,7 @@ fn marks(given: Marks) -> SeenMarks {
     }
 }
 
-fn has_run(len: u64) -> Result<(), Refusal> {
+pub(super) fn has_run(len: u64) -> Result<(), Refusal> {
     let run = phys::has_run((len / PAGE) as usize);
     run.then_some(()).ok_or(Refusal::OutOfMemory)
 }

@@ -1,5 +1,7 @@
 //! Faults, populate and eager populate: the kernel's own, with the entry table's limit before them.
 
+use std::sync::Arc;
+
 use kernel::mcore::mtask::process::mem::probe::{self, Seen, SeenKind};
 use kernel::mcore::mtask::process::mem::{ForkPolicy, MemoryRegion, PageInError};
 use kernel::mem::address_space::USER_PAGES;
@@ -14,7 +16,7 @@ use crate::answer::{Answer, Refusal};
 
 /// The kernel walks every page of a range. A longer range is handed to it region by region, for the
 /// pages between regions change nothing.
-const LONGEST_WALK: u64 = 1024 * PAGE;
+pub(super) const LONGEST_WALK: u64 = 1024 * PAGE;
 const UPPER_HALF: u64 = 0xffff_8000_0000_0000;
 
 impl Machine {
@@ -87,15 +89,8 @@ impl Machine {
         if self.entries_suffice() && last - addr < LONGEST_WALK {
             return hand_over(process, addr, last - addr + 1, write);
         }
-        let mut regions = process.attached();
-        regions.sort_by_key(|region| region.addr());
-        for region in regions {
-            let first = region.addr().as_u64();
-            let from = first.max(addr / PAGE * PAGE);
-            let to = last.min(first + (region.size() as u64 - 1));
-            if from <= to {
-                self.populate_region(process, &region, from, to, write)?;
-            }
+        for (region, from, to) in in_regions(process, addr, last) {
+            self.populate_region(process, &region, from, to, write)?;
         }
         Ok(())
     }
@@ -144,6 +139,23 @@ impl Machine {
     }
 }
 
+/// The regions that lie between the two, by start, and where: the first page and the last address.
+pub(super) fn in_regions(
+    process: &Process,
+    addr: u64,
+    last: u64,
+) -> impl Iterator<Item = (Arc<MemoryRegion>, u64, u64)> {
+    let mut regions = process.attached();
+    regions.sort_by_key(|region| region.addr());
+    let parts = regions.into_iter().map(move |region| {
+        let first = region.addr().as_u64();
+        let from = first.max(addr / PAGE * PAGE);
+        let to = last.min(first + (region.size() as u64 - 1));
+        (region, from, to)
+    });
+    parts.filter(|(_, from, to)| from <= to)
+}
+
 /// What an unguarded machine still refuses: a walk that would not end within our lifetime.
 fn walk_short(addr: u64, last: u64) -> Result<(), Refusal> {
     let short = last.min(USER_END) - addr < LONGEST_WALK;
@@ -151,7 +163,12 @@ fn walk_short(addr: u64, last: u64) -> Result<(), Refusal> {
 }
 
 /// Has the kernel populate.
-fn hand_over(process: &Process, addr: u64, len: u64, write: bool) -> Result<(), Refusal> {
+pub(super) fn hand_over(
+    process: &Process,
+    addr: u64,
+    len: u64,
+    write: bool,
+) -> Result<(), Refusal> {
     let addr = VirtAddr::new(addr);
     let done = process
         .regions
@@ -188,7 +205,7 @@ fn reads_unreadable(seen: &Seen, page: u64) -> bool {
     !part.node.is_readable() && page - seen.start < part.length
 }
 
-fn refusal(error: PageInError) -> Refusal {
+pub(super) fn refusal(error: PageInError) -> Refusal {
     match error {
         PageInError::OutOfMemory => Refusal::OutOfMemory,
         PageInError::MapFailed => Refusal::MapFailed,

@@ -93,7 +93,7 @@ fn is_reserved(target: &Process, region: &MemoryRegion) -> bool {
     })
 }
 
-fn refusal(error: CloneRegionError) -> Refusal {
+pub(super) fn refusal(error: CloneRegionError) -> Refusal {
     match error {
         CloneRegionError::SegmentReserved => Refusal::SegmentReserved,
         CloneRegionError::OutOfMemory => Refusal::OutOfMemory,

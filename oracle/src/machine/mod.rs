@@ -1,6 +1,7 @@
 //! The machine of the rules, answered by the kernel's mem.rs: processes, frames, files, pins, and
 //! the refusals that the kernel does not have.
 
+mod bare;
 mod bytes;
 mod create;
 mod faults;
@@ -10,6 +11,7 @@ mod process;
 mod regions;
 mod snapshot;
 
+pub use bare::Starts;
 pub use kernel::mem::address_space::USER_PAGES as MAPPED;
 pub use process::Process;
 pub use snapshot::{ProcessView, RegionKind, RegionView, Snapshot, sum};
@@ -115,6 +117,10 @@ impl Machine {
 
     fn open(&mut self, start: u64, size: u64) -> Result<Answer, Refusal> {
         form::arena(start, size)?;
+        self.open_process(start, size).map(Answer::count)
+    }
+
+    fn open_process(&mut self, start: u64, size: u64) -> Result<u64, Refusal> {
         let closed = self
             .processes
             .iter_mut()
@@ -122,7 +128,7 @@ impl Machine {
             .find(|(_, p)| p.is_none());
         let (number, place) = closed.ok_or(Refusal::TableFull)?;
         *place = Some(Process::open(start, size));
-        Ok(Answer::count(number as u64))
+        Ok(number as u64)
     }
 
     fn close(&mut self, p: u64) -> Result<Answer, Refusal> {

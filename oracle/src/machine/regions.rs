@@ -39,13 +39,7 @@ impl Machine {
                 .carve(&(start..end))
                 .map_err(CarveStop::Split)
         };
-        let inside = inside.map_err(|stop| match stop {
-            CarveStop::Split(SplitError::EagerBacking) => Refusal::EagerBacking,
-            CarveStop::Split(SplitError::Shared) => Refusal::Shared,
-            CarveStop::Split(SplitError::InUse) => Refusal::InUse,
-            CarveStop::TableFull => Refusal::TableFull,
-        })?;
-        Ok(starts(&inside))
+        Ok(starts(&inside.map_err(carve_refusal)?))
     }
 
     pub(super) fn covers(&self, p: u64, start: u64, end: u64) -> Result<Answer, Refusal> {
@@ -108,6 +102,15 @@ impl Machine {
             process.pins.remove(at);
         }
         Ok(Answer::done())
+    }
+}
+
+pub(super) fn carve_refusal(stop: CarveStop) -> Refusal {
+    match stop {
+        CarveStop::Split(SplitError::EagerBacking) => Refusal::EagerBacking,
+        CarveStop::Split(SplitError::Shared) => Refusal::Shared,
+        CarveStop::Split(SplitError::InUse) => Refusal::InUse,
+        CarveStop::TableFull => Refusal::TableFull,
     }
 }
 

@@ -8,7 +8,7 @@ mod rust;
 
 pub use plain::PlainManager;
 #[cfg(proved_segments)]
-pub use proved::{ProvedManager, RESULTS};
+pub use proved::ProvedManager;
 pub use rust::RustManager;
 
 /// A manager holds this many segments.

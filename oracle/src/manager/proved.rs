@@ -1,51 +1,72 @@
-//! The proved manager of crate `segments`, by the C functions of its library.
+//! The proved manager, by crate `jhilkompa`: each call by its method and by the library's function in turn.
 
-use super::SEGMENTS;
+use jhilkompa::VirtAddr;
+use jhilkompa::ffi::segments as c;
+use jhilkompa::segments::{Manager, RESULTS, Reserved, Segment};
+
 use crate::answer::{Answer, Refusal, Value};
 use crate::calls::ManagerCall;
 
-const COUNT: usize = 2;
-const FIRST: usize = 3;
-const WORDS: usize = FIRST + 2 * SEGMENTS;
-pub const RESULTS: usize = 4;
-
-unsafe extern "C" {
-    fn manager_new(words: *mut u64, n: usize, start: u64, size: u64) -> u64;
-    fn manager_reserve(words: *mut u64, n: usize, len: u64, out: *mut u64, m: usize) -> u64;
-    fn manager_mark(words: *mut u64, n: usize, start: u64, len: u64) -> u64;
-    fn manager_release(
-        words: *mut u64,
-        n: usize,
-        start: u64,
-        len: u64,
-        out: *mut u64,
-        m: usize,
-    ) -> u64;
-    fn manager_split(
-        words: *mut u64,
-        n: usize,
-        start: u64,
-        len: u64,
-        at: u64,
-        out: *mut u64,
-        m: usize,
-    ) -> u64;
-}
-
-/// The manager's table: arena start, arena size, count, then 64 pairs of start and length.
 pub struct ProvedManager {
-    words: [u64; WORDS],
+    manager: Manager,
+    /// How many calls were made.
+    asked: u64,
 }
 
 impl Default for ProvedManager {
+    /// A manager of no arena.
     fn default() -> Self {
-        Self { words: [0; WORDS] }
+        let manager = Manager::new(VirtAddr(0), 0).expect("an arena may be empty");
+        Self { manager, asked: 0 }
     }
 }
 
 impl ProvedManager {
     pub fn answer(&mut self, call: &ManagerCall) -> Answer {
-        let before = self.words;
+        self.asked += 1;
+        let before = self.manager.clone();
+        let answer = if self.asked.is_multiple_of(2) {
+            self.by_method(call).into()
+        } else {
+            self.by_function(call)
+        };
+        if matches!(answer, Answer::No(_)) && self.manager != before {
+            return broken("a refusal changed the table");
+        }
+        answer
+    }
+
+    fn by_method(&mut self, call: &ManagerCall) -> Result<Answer, Refusal> {
+        let segment = |start, len| Segment::new(VirtAddr(start), len);
+        let manager = &mut self.manager;
+        match *call {
+            ManagerCall::Manager { start, size } => {
+                *manager = Manager::new(VirtAddr(start), size)?;
+                Ok(Answer::done())
+            }
+            ManagerCall::Reserve { len } => {
+                let Reserved { segment, restarts } = manager.reserve_bytes(len)?;
+                let start = Value::Hex(segment.start.0);
+                Ok(Answer::Ok(vec![start, Value::Count(restarts)]))
+            }
+            ManagerCall::Mark { start, len } => {
+                let marked = manager.mark_as_reserved(segment(start, len));
+                marked.map(|()| Answer::done())
+            }
+            ManagerCall::Release { start, len } => {
+                manager.release(segment(start, len)).map(Answer::verdict)
+            }
+            ManagerCall::Split { start, len, at } => {
+                let (low, high) = manager.split(segment(start, len), VirtAddr(at))?;
+                let parts = [low.start.0, low.len, high.start.0, high.len];
+                Ok(Answer::Ok(parts.map(Value::Hex).to_vec()))
+            }
+            ManagerCall::Segments => Ok(self.segments()),
+        }
+    }
+
+    /// By the library's function, and all words of its results are looked at: zeros stand where there is none.
+    fn by_function(&mut self, call: &ManagerCall) -> Answer {
         let mut out = [u64::MAX; RESULTS];
         let number = self.ask(call, &mut out);
         let used = results(call).map_or(RESULTS, |used| if number == 0 { used } else { 0 });
@@ -53,9 +74,6 @@ impl ProvedManager {
             return broken("a result that has no meaning is not 0");
         }
         if number != 0 {
-            if self.words != before {
-                return broken("a refusal changed the table");
-            }
             let refusal = Refusal::from_number(number);
             return refusal.map_or_else(|| broken("an unknown number"), Answer::No);
         }
@@ -70,30 +88,22 @@ impl ProvedManager {
         }
     }
 
-    /// Answers the number that the library gives; 0 is success.
-    pub fn ask(&mut self, call: &ManagerCall, out: &mut [u64; RESULTS]) -> u64 {
-        let (w, o) = (self.words.as_mut_ptr(), out.as_mut_ptr());
-        // SAFETY: each function reads and writes inside the two slices that it is lent.
-        unsafe {
-            match *call {
-                ManagerCall::Manager { start, size } => manager_new(w, WORDS, start, size),
-                ManagerCall::Reserve { len } => manager_reserve(w, WORDS, len, o, RESULTS),
-                ManagerCall::Mark { start, len } => manager_mark(w, WORDS, start, len),
-                ManagerCall::Release { start, len } => {
-                    manager_release(w, WORDS, start, len, o, RESULTS)
-                }
-                ManagerCall::Split { start, len, at } => {
-                    manager_split(w, WORDS, start, len, at, o, RESULTS)
-                }
-                ManagerCall::Segments => 0,
-            }
+    /// The number that the library gives; 0 is success.
+    fn ask(&mut self, call: &ManagerCall, out: &mut [u64; RESULTS]) -> u64 {
+        let words = self.manager.words_mut();
+        match *call {
+            ManagerCall::Manager { start, size } => c::manager_new(words, start, size),
+            ManagerCall::Reserve { len } => c::manager_reserve(words, len, out),
+            ManagerCall::Mark { start, len } => c::manager_mark(words, start, len),
+            ManagerCall::Release { start, len } => c::manager_release(words, start, len, out),
+            ManagerCall::Split { start, len, at } => c::manager_split(words, start, len, at, out),
+            ManagerCall::Segments => 0,
         }
     }
 
     fn segments(&self) -> Answer {
-        let count = self.words[COUNT] as usize;
-        let pairs = self.words[FIRST..].iter().take(2 * count);
-        Answer::list(pairs.copied().collect(), 2)
+        let pairs = self.manager.segments().flat_map(|s| [s.start.0, s.len]);
+        Answer::list(pairs.collect(), 2)
     }
 }
 

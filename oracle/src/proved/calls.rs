@@ -1,17 +1,16 @@
 //! The library's calls over lent memory of whatever lengths: numbers in, numbers out.
 
-use super::Lent;
-use super::exports::*;
-use crate::calls::{Create, Kind, MachineCall, Marks};
+use jhilkompa::RESULTS;
+use jhilkompa::ffi::machine::*;
 
-/// Results of a list of regions, how many there are and 64 starts, and of any call by its number.
-pub const LIST: usize = 65;
+use super::Lent;
+use crate::calls::{Create, Kind, MachineCall, Marks};
 
 /// How many results a call has by its name.
 #[must_use]
 pub fn results(call: &MachineCall) -> usize {
     match call {
-        MachineCall::Regions { .. } | MachineCall::Carve { .. } => LIST,
+        MachineCall::Regions { .. } | MachineCall::Carve { .. } => RESULTS,
         MachineCall::Open { .. }
         | MachineCall::Create(_)
         | MachineCall::Covers { .. }
@@ -24,128 +23,84 @@ pub fn results(call: &MachineCall) -> usize {
 impl Lent {
     /// The number that `machine_call` gives for a call in words, whatever they are.
     pub fn ask_number(&mut self, call: &[u64], out: &mut [u64]) -> u64 {
-        let (w, f, b) = (&mut self.words, &mut self.frames, &self.files);
-        // SAFETY: the function reads and writes inside the slices that it is lent, which are apart.
-        unsafe {
-            machine_call(
-                w.as_mut_ptr(),
-                w.len(),
-                f.as_mut_ptr(),
-                f.len(),
-                b.as_ptr(),
-                b.len(),
-                call.as_ptr(),
-                call.len(),
-                out.as_mut_ptr(),
-                out.len(),
-            )
-        }
+        machine_call(&mut self.words, &mut self.frames, &self.files, call, out)
+    }
+
+    /// How many calls `machine_run` runs of those in these words, whatever they are.
+    pub fn run(&mut self, calls: &[u64], answers: &mut [u64]) -> u64 {
+        let (words, frames, files) = (&mut self.words, &mut self.frames, &self.files);
+        machine_run(words, frames, files, calls, answers)
     }
 
     /// The number that the call's own function gives; 0 is success. A start takes `rows`. The state is the
     /// harness's own, and so is a file: there the library is asked whether the machine is sound.
     pub fn ask(&mut self, call: &MachineCall, rows: &[u64], out: &mut [u64]) -> u64 {
-        let (w, wn) = (self.words.as_mut_ptr(), self.words.len());
-        let (f, fn_) = (self.frames.as_mut_ptr(), self.frames.len());
-        let (b, bn) = (self.files.as_ptr(), self.files.len());
-        let (o, on) = (out.as_mut_ptr(), out.len());
-        // SAFETY: each function reads and writes inside the slices that it is lent, which are apart.
-        unsafe {
-            match *call {
-                MachineCall::File { .. } | MachineCall::State => self.sound(),
-                MachineCall::Start { .. } => {
-                    machine_start(w, wn, f, fn_, b, bn, rows.as_ptr(), rows.len())
-                }
-                MachineCall::Open { start, size } => {
-                    machine_open(w, wn, f, fn_, b, bn, start, size, o, on)
-                }
-                MachineCall::Close { p } => machine_close(w, wn, f, fn_, b, bn, p),
-                MachineCall::Create(ref create) => self.create(create, out),
-                MachineCall::Remove { p, addr } => machine_remove(w, wn, f, fn_, b, bn, p, addr),
-                MachineCall::Clear { p } => machine_clear(w, wn, f, fn_, b, bn, p),
-                MachineCall::Carve { p, start, end } => {
-                    machine_carve(w, wn, f, fn_, b, bn, p, start, end, o, on)
-                }
-                MachineCall::Covers { p, start, end } => {
-                    machine_covers(w, wn, f, fn_, b, bn, p, start, end, o, on)
-                }
-                MachineCall::Region { p, addr } => {
-                    machine_region(w, wn, f, fn_, b, bn, p, addr, o, on)
-                }
-                MachineCall::Regions { p } => machine_regions(w, wn, f, fn_, b, bn, p, o, on),
-                MachineCall::Fault { p, addr, write } => {
-                    machine_fault(w, wn, f, fn_, b, bn, p, addr, write.into())
-                }
-                MachineCall::Populate {
-                    p,
-                    addr,
-                    len,
-                    write,
-                } => machine_populate(w, wn, f, fn_, b, bn, p, addr, len, write.into()),
-                MachineCall::Eager { p } => machine_eager(w, wn, f, fn_, b, bn, p),
-                MachineCall::CloneRegion { p, addr, target } => {
-                    machine_clone_region(w, wn, f, fn_, b, bn, p, addr, target)
-                }
-                MachineCall::Clone { p, target } => machine_clone(w, wn, f, fn_, b, bn, p, target),
-                MachineCall::Protect { p, addr, flags } => {
-                    machine_protect(w, wn, f, fn_, b, bn, p, addr, flags)
-                }
-                MachineCall::Pin { p, addr } => machine_pin(w, wn, f, fn_, b, bn, p, addr),
-                MachineCall::Unpin { p, addr } => machine_unpin(w, wn, f, fn_, b, bn, p, addr),
-                MachineCall::Load { p, addr } => machine_load(w, wn, f, fn_, b, bn, p, addr, o, on),
-                MachineCall::Store { p, addr, byte } => {
-                    machine_store(w, wn, f, fn_, b, bn, p, addr, byte)
-                }
+        let (w, f, b) = (&mut self.words[..], &mut self.frames[..], &self.files[..]);
+        match *call {
+            MachineCall::File { .. } | MachineCall::State => machine_sound(w, f, b),
+            MachineCall::Start { .. } => machine_start(w, f, b, rows),
+            MachineCall::Open { start, size } => machine_open(w, f, b, start, size, out),
+            MachineCall::Close { p } => machine_close(w, f, b, p),
+            MachineCall::Create(ref create) => self.create(create, out),
+            MachineCall::Remove { p, addr } => machine_remove(w, f, b, p, addr),
+            MachineCall::Clear { p } => machine_clear(w, f, b, p),
+            MachineCall::Carve { p, start, end } => machine_carve(w, f, b, p, start, end, out),
+            MachineCall::Covers { p, start, end } => machine_covers(w, f, b, p, start, end, out),
+            MachineCall::Region { p, addr } => machine_region(w, f, b, p, addr, out),
+            MachineCall::Regions { p } => machine_regions(w, f, b, p, out),
+            MachineCall::Fault { p, addr, write } => machine_fault(w, f, b, p, addr, write.into()),
+            MachineCall::Populate {
+                p,
+                addr,
+                len,
+                write,
+            } => machine_populate(w, f, b, p, addr, len, write.into()),
+            MachineCall::Eager { p } => machine_eager(w, f, b, p),
+            MachineCall::CloneRegion { p, addr, target } => {
+                machine_clone_region(w, f, b, p, addr, target)
             }
+            MachineCall::Clone { p, target } => machine_clone(w, f, b, p, target),
+            MachineCall::Protect { p, addr, flags } => machine_protect(w, f, b, p, addr, flags),
+            MachineCall::Pin { p, addr } => machine_pin(w, f, b, p, addr),
+            MachineCall::Unpin { p, addr } => machine_unpin(w, f, b, p, addr),
+            MachineCall::Load { p, addr } => machine_load(w, f, b, p, addr, out),
+            MachineCall::Store { p, addr, byte } => machine_store(w, f, b, p, addr, byte),
         }
     }
 
     fn create(&mut self, create: &Create, out: &mut [u64]) -> u64 {
-        let (w, wn) = (self.words.as_mut_ptr(), self.words.len());
-        let (f, fn_) = (self.frames.as_mut_ptr(), self.frames.len());
-        let (b, bn) = (self.files.as_ptr(), self.files.len());
-        let (o, on) = (out.as_mut_ptr(), out.len());
+        let (w, f, b) = (&mut self.words[..], &mut self.frames[..], &self.files[..]);
         let &Create { p, size, kind, .. } = create;
         let (given, start) = (create.start.is_some().into(), create.start.unwrap_or(0));
         let words_of = |marks: Marks| (marks.flags, marks.copy.into(), marks.thread.into());
-        // SAFETY: each function reads and writes inside the slices that it is lent, which are apart.
-        unsafe {
-            match kind {
-                Kind::Lazy(marks) | Kind::Eager(marks) => {
-                    let (flags, copy, thread) = words_of(marks);
-                    let eager = matches!(kind, Kind::Eager(_)).into();
-                    machine_create_private(
-                        w, wn, f, fn_, b, bn, p, given, start, size, flags, copy, thread, eager, o,
-                        on,
-                    )
-                }
-                Kind::File(marks, part) => {
-                    let (flags, copy, thread) = words_of(marks);
-                    machine_create_file(
-                        w,
-                        wn,
-                        f,
-                        fn_,
-                        b,
-                        bn,
-                        p,
-                        given,
-                        start,
-                        size,
-                        flags,
-                        copy,
-                        thread,
-                        part.file,
-                        part.offset,
-                        part.length,
-                        o,
-                        on,
-                    )
-                }
-                Kind::Shared => {
-                    machine_create_shared(w, wn, f, fn_, b, bn, p, given, start, size, o, on)
-                }
+        match kind {
+            Kind::Lazy(marks) | Kind::Eager(marks) => {
+                let (flags, copy, thread) = words_of(marks);
+                let eager = matches!(kind, Kind::Eager(_)).into();
+                machine_create_private(
+                    w, f, b, p, given, start, size, flags, copy, thread, eager, out,
+                )
             }
+            Kind::File(marks, part) => {
+                let (flags, copy, thread) = words_of(marks);
+                machine_create_file(
+                    w,
+                    f,
+                    b,
+                    p,
+                    given,
+                    start,
+                    size,
+                    flags,
+                    copy,
+                    thread,
+                    part.file,
+                    part.offset,
+                    part.length,
+                    out,
+                )
+            }
+            Kind::Shared => machine_create_shared(w, f, b, p, given, start, size, out),
         }
     }
 }

@@ -1,15 +1,6 @@
 //! Memory lent to the library, of whatever lengths, and the library's test of it.
 
-unsafe extern "C" {
-    fn machine_sound(
-        words: *const u64,
-        words_len: usize,
-        frames: *const u8,
-        frames_len: usize,
-        files: *const u8,
-        files_len: usize,
-    ) -> u64;
-}
+use jhilkompa::ffi::machine::machine_sound;
 
 #[cfg(proved_bench)]
 unsafe extern "C" {
@@ -56,18 +47,7 @@ impl Lent {
     /// The number that the library gives: 0 for a sound machine, 1 for anything else.
     #[must_use]
     pub fn sound(&self) -> u64 {
-        let (w, f, b) = (&self.words, &self.frames, &self.files);
-        // SAFETY: the function reads inside the three slices that it is lent, whatever is in them.
-        unsafe {
-            machine_sound(
-                w.as_ptr(),
-                w.len(),
-                f.as_ptr(),
-                f.len(),
-                b.as_ptr(),
-                b.len(),
-            )
-        }
+        machine_sound(&self.words, &self.frames, &self.files)
     }
 
     /// The sum of the bytes that a process loads at so many addresses from one on, with one test for all of them.
@@ -75,7 +55,7 @@ impl Lent {
     #[must_use]
     pub fn loads(&self, process: u64, addr: u64, times: u64) -> u64 {
         let (w, f, b) = (&self.words, &self.frames, &self.files);
-        // SAFETY: as above.
+        // SAFETY: the function reads inside the three slices that it is lent, whatever is in them.
         unsafe {
             cores_loads(
                 w.as_ptr(),

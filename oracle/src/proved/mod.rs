@@ -1,20 +1,13 @@
-//! The proved machine of crate `machine_c`, by the C functions of its library (include/machine.h).
-//! Where the library has no more than its soundness test, the calls are left out.
+//! The proved machine, by crate `jhilkompa`: beside the Rust's, and on lent memory of whatever lengths.
 
-#[cfg(proved_machine_calls)]
 mod calls;
-#[cfg(proved_machine_calls)]
-mod exports;
 mod lent;
-#[cfg(proved_machine_calls)]
 mod machine;
-#[cfg(proved_machine_calls)]
-mod numbers;
+mod methods;
+mod typed;
 
-#[cfg(proved_machine_calls)]
-pub use calls::{LIST, results};
+pub use calls::results;
+pub use jhilkompa::RESULTS as LIST;
 pub use lent::Lent;
-#[cfg(proved_machine_calls)]
 pub use machine::{ProvedMachine, keeps};
-#[cfg(proved_machine_calls)]
-pub use numbers::numbered;
+pub use typed::{numbered, typed};

@@ -146,6 +146,17 @@ impl MachineScript {
         calls
     }
 
+    /// A sequence with so many calls after its start and what brings it to its first tables.
+    pub fn long_sequence(&mut self, calls: u64) -> Vec<MachineCall> {
+        self.left = 0;
+        let mut sequence = vec![self.next_call()];
+        self.left = calls + self.first.len() as u64;
+        while self.left > 0 {
+            sequence.push(self.next_call());
+        }
+        sequence
+    }
+
     pub fn next_call(&mut self) -> MachineCall {
         let call = if self.left == 0 {
             self.begin()
