@@ -23,7 +23,7 @@ use Rattle.model.specs.Machine.{Machine, mappedOf, regionAt}
 use Rattle.model.specs.Lookup.{isShared}
 use Rattle.model.specs.Paging.{isWritable, isUser, allFour, translate, wellMapped}
 use Rattle.model.specs.Backing.{backingAt, backing}
-use Rattle.model.specs.Fault.{backedWay, mappedWay, unmappedWay, translatedWay, privateWay, sharedWay, faultWay}
+use Rattle.model.specs.Fault.{backedWay, mappedWay, unbackedWay, unmappedWay, translatedWay, privateWay, sharedWay, faultWay}
 use Rattle.model.specs.Sound.{Sound}
 use Rattle.model.specs.RecordLaws.{sound-tells}
 use Rattle.rows.specs.LentMemory.{stateOf, SoundWords}
@@ -65,6 +65,15 @@ module _ (r : Region) (x : Bool) (e : x ≡ isWritable (r .flags .0)) where
     pub backed-shared : not x ≡ false → (n ≡ 1 → ⊥) → w ≡ false → (y : PageTableFlags) → y .0 ≡ readOnly (r .flags .0) → Map f y ≡ backedWay r f n w
     backed-shared a b c y g = ap (λ (k : ℕ). Map f (record { 0 = k })) g ∙ rw (may a, ne-eqb n 1 b, c) refl
 
+  pub bare-open : x ≡ true → (w : Bool) → Fill ≡ unbackedWay r w
+  bare-open a w = rw (sym e ∙ a) refl
+
+  pub bare-refused : x ≡ false → (w : Bool) → w ≡ true → Refuse NotWritable ≡ unbackedWay r w
+  bare-refused a w b = rw (sym e ∙ a, b) refl
+
+  pub bare-read : x ≡ false → (w : Bool) → w ≡ false → Fill ≡ unbackedWay r w
+  bare-read a w b = rw (sym e ∙ a, b) refl
+
   module _ (b : Backed) where
     pub mapped-fixed : not x ≡ true → Refuse NotWritable ≡ mappedWay r b
     mapped-fixed a = go b
@@ -90,8 +99,8 @@ module _ (r : Region) (b : Backed) (w : Bool) where
   pub unmapped-range : (f : PhysFrame) (n : ℕ) → b ≡ ByRange f n → (y : Way) → y ≡ backedWay r f n w → y ≡ unmappedWay r b w
   unmapped-range f n g y k = k ∙ sym (ap (λ (z : Backed). unmappedWay r z w) g)
 
-  pub unmapped-fill : b ≡ Unbacked → Fill ≡ unmappedWay r b w
-  unmapped-fill g = sym (ap (λ (z : Backed). unmappedWay r z w) g)
+  pub unmapped-bare : b ≡ Unbacked → (y : Way) → y ≡ unbackedWay r w → y ≡ unmappedWay r b w
+  unmapped-bare g y k = k ∙ sym (ap (λ (z : Backed). unmappedWay r z w) g)
 
 module _ (r : Region) (t : Translated) (b : Backed) (w x : Bool) (e : x ≡ isUser (r .flags .0)) where
   pub private-refused : not x ≡ true → Refuse NotAccessible ≡ privateWay r t b w

@@ -4,7 +4,7 @@ ghost use Prim.Native.Nat.{_<_};
 ghost use lib.ListN.{length};
 ghost use Rattle.model.specs.Layout.{wordCount, machine};
 ghost use Rattle.model.specs.Paging.{wellMapped};
-ghost use Rattle.model.specs.Fault.{backedWay, mappedWay, unmappedWay, privateWay, sharedWay, faultWay};
+ghost use Rattle.model.specs.Fault.{backedWay, mappedWay, unbackedWay, unmappedWay, privateWay, sharedWay, faultWay};
 ghost use Rattle.fault_way.specs.Way.{copiedWay};
 ghost use Rattle.rows.specs.LentMemory.{SoundWords};
 use address::Page;
@@ -90,6 +90,19 @@ fn mapped_way(region: Region, backed: Backed) -> Way
     }
 }
 
+// A page that is not mapped and that nothing backs: a new frame, but none for a write that the region forbids.
+fn unbacked_way(region: Region, write: bool) -> Way
+    ensures { λ r. ⌜ r ≡ unbackedWay region write ⌝ }
+{
+    if region.flags.is_writable() {
+        return Way::Fill;
+    }
+    if write {
+        return Way::Refuse(Refusal::NotWritable);
+    }
+    Way::Fill
+}
+
 // A page that is not mapped: it is mapped to what backs it, or to a new frame.
 fn unmapped_way(region: Region, backed: Backed, write: bool) -> Way
     ensures { λ r. ⌜ r ≡ unmappedWay region backed write ⌝ }
@@ -101,7 +114,7 @@ fn unmapped_way(region: Region, backed: Backed, write: bool) -> Way
             count,
         } => backed_way(region, frame, count, write),
         Backed::ByRange { frame, count } => backed_way(region, frame, count, write),
-        Backed::Unbacked => Way::Fill,
+        Backed::Unbacked => unbacked_way(region, write),
     }
 }
 

@@ -266,7 +266,7 @@ translated-bare : (r : Region) (t : Translated) (b : Backed) (w : Bool) → Bare
 translated-bare r (Mapped x) b w = pick b _ _ (wellMapped (Mapped x) w) tt (mapped-bare r b)
 translated-bare r NotMapped (ByEntry i f n) w = backed-bare r (ByEntry i f n) f n w
 translated-bare r NotMapped (ByRange f n) w = backed-bare r (ByRange f n) f n w
-translated-bare r NotMapped Unbacked w = refl
+translated-bare r NotMapped Unbacked w = pick Unbacked _ _ (isWritable (r .flags .0)) refl (pick Unbacked _ _ w tt refl)
 
 private-bare : (r : Region) (t : Translated) (b : Backed) (w : Bool) → Bare b (privateWay r t b w)
 unfolding privateWay

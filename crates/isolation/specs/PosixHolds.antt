@@ -146,7 +146,7 @@ translated-reads : (r : Region) (t : Translated) (b : Backed) → Reads t (trans
 translated-reads r (Mapped x) b = refl
 translated-reads r NotMapped (ByEntry i f n) = backed-reads r f n
 translated-reads r NotMapped (ByRange f n) = backed-reads r f n
-translated-reads r NotMapped Unbacked = tt
+translated-reads r NotMapped Unbacked = pick NotMapped _ _ (isWritable (r .flags .0)) tt tt
 
 private-reads : (r : Region) (t : Translated) (b : Backed) → Reads t (privateWay r t b false)
 unfolding privateWay

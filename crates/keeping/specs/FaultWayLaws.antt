@@ -67,7 +67,8 @@ module _ (r : Region) (private : r .kind ≢ 3) where
   unmapped-right : (b : Backed) (w : Bool) → Right r NotMapped b (unmappedWay r b w)
   unmapped-right (ByEntry i f n) w = backed-right (ByEntry i f n) f refl w
   unmapped-right (ByRange f n) w = backed-right (ByRange f n) f refl w
-  unmapped-right Unbacked w = private
+  unmapped-right Unbacked w =
+      pick r NotMapped Unbacked _ _ (isWritable (r .flags .0)) (λ u. private) (λ u. pick r NotMapped Unbacked _ _ w (λ q. tt) (λ q. private))
 
   translated-right : (t : Translated) (b : Backed) (w : Bool) → Right r t b (translatedWay r t b w)
   translated-right (Mapped x) b w = pick r (Mapped x) b _ _ (wellMapped (Mapped x) w) (λ u. tt) (λ u. mapped-right (Mapped x) b)

@@ -33,11 +33,14 @@ mappedWay r Unbacked = cond (isWritable (r .flags .0)) (Refuse MapFailed) (Refus
 abbrev pub backedWay : Region → PhysFrame → ℕ → Bool → Way
 backedWay r f n w = cond (isWritable (r .flags .0)) (cond (eqb n 1) (Map f (r .flags)) (cond w (Copy f) (Map f (record { 0 = readOnly (r .flags .0) })))) (cond w (Refuse NotWritable) (Map f (r .flags)))
 
--- RULES T10: unmapped, unbacked: a filled new frame is mapped with the region's flags
+-- RULES T10 (request 2026-01): unmapped, unbacked: a write to a read-only region is NotWritable; else a filled new frame is mapped with the region's flags
+abbrev pub unbackedWay : Region → Bool → Way
+unbackedWay r w = cond (isWritable (r .flags .0)) Fill (cond w (Refuse NotWritable) Fill)
+
 abbrev pub unmappedWay : Region → Backed → Bool → Way
 unmappedWay r (ByEntry i f n) w = backedWay r f n w
 unmappedWay r (ByRange f n) w = backedWay r f n w
-unmappedWay r Unbacked w = Fill
+unmappedWay r Unbacked w = unbackedWay r w
 
 abbrev pub translatedWay : Region → Translated → Backed → Bool → Way
 translatedWay r (Mapped x) b w = cond (wellMapped (Mapped x) w) Already (mappedWay r b)

@@ -136,12 +136,14 @@ p11 = record {
       ∷ does (Call.load 0 0x1005) (ok (42 ∷ [])) ∷ does (Call.load 1 0x1005) (ok (42 ∷ [])) ∷ []);
 }
 
--- P12 Write fault, unbacked, read-only: success; again: NotWritable.
+-- P12 (request 2026-01) Write fault, unbacked, read-only: NotWritable, twice, and no frame spent. A read then fills the page.
 unfoldable pub p12 : Row
 p12 = record {
   from = fresh 1 [] [];
   events = begins (
       lazy 0 0x1000 0x1000 ro
-      ∷ done (Call.fault 0 0x1000 true) ∷ sees (Look.mapped 0 1) (0 ∷ ro ∷ [])
-      ∷ refuses (Call.fault 0 0x1000 true) NotWritable ∷ sees (Look.mapped 0 1) (0 ∷ ro ∷ []) ∷ []);
+      ∷ refuses (Call.fault 0 0x1000 true) NotWritable ∷ sees (Look.mapped 0 1) [] ∷ sees Look.pool (1 ∷ 0 ∷ [])
+      ∷ refuses (Call.fault 0 0x1000 true) NotWritable ∷ sees (Look.mapped 0 1) [] ∷ sees Look.pool (1 ∷ 0 ∷ [])
+      ∷ done (Call.fault 0 0x1000 false) ∷ sees (Look.mapped 0 1) (0 ∷ ro ∷ [])
+      ∷ refuses (Call.fault 0 0x1000 true) NotWritable ∷ []);
 }

@@ -120,6 +120,12 @@ backed-moves f full less true false false = refl
 backed-moves f full less false one true = refl
 backed-moves f full less false one false = refl
 
+bare-moves : (v w : Bool) → stays (cond v Fill (cond w (Refuse NotWritable) Fill)) ≡ false
+unfolding stays
+bare-moves true w = refl
+bare-moves false true = refl
+bare-moves false false = refl
+
 user-moves : (u : Bool) (x : Way) → stays x ≡ false → stays (cond u x (Refuse NotAccessible)) ≡ false
 unfolding stays
 user-moves true x e = e
@@ -129,7 +135,7 @@ private-moves : (r : Region) (b : Backed) (w : Bool) → stays (privateWay r Not
 unfolding stays privateWay
 private-moves r (ByEntry i f n) w = user-moves (isUser (r .flags .0)) _ (backed-moves f (r .flags) (record { 0 = readOnly (r .flags .0) }) (isWritable (r .flags .0)) (eqb n 1) w)
 private-moves r (ByRange f n) w = user-moves (isUser (r .flags .0)) _ (backed-moves f (r .flags) (record { 0 = readOnly (r .flags .0) }) (isWritable (r .flags .0)) (eqb n 1) w)
-private-moves r Unbacked w = user-moves (isUser (r .flags .0)) Fill refl
+private-moves r Unbacked w = user-moves (isUser (r .flags .0)) _ (bare-moves (isWritable (r .flags .0)) w)
 
 shared-moves : (b : Backed) → stays (sharedWay NotMapped b) ≡ false
 unfolding stays sharedWay

@@ -132,7 +132,19 @@ rights = record {
       ∷ does (Call.load 0 0x1000) (says Denied (0 ∷ [])) ∷ done (Call.populate 0 0x1000 1 false) ∷ refuses (Call.fault 0 0x1000 false) NotAccessible
       ∷ does (Call.createShared 0 (at 0x4000) 0x1000) (ok (0x4000 ∷ [])) ∷ refuses (Call.protect 0 0x4000 rw) UnsupportedRegion
       ∷ done (Call.fault 0 0x4000 true) ∷ sees (Look.mapped 0 4) (1 ∷ (2 ^ 63 + 7) ∷ [])
-      ∷ does (Call.createPrivate 0 (at 0x6000) false 1 ro true false) (ok (0x6000 ∷ [])) ∷ done (Call.eager 0) ∷ sees (Look.mapped 0 6) (2 ∷ ro ∷ []) ∷ refuses (Call.eager 0) NotWritable ∷ []);
+      ∷ does (Call.createPrivate 0 (at 0x6000) false 1 ro true false) (ok (0x6000 ∷ [])) ∷ refuses (Call.eager 0) NotWritable ∷ sees (Look.mapped 0 6) [] ∷ []);
+}
+
+-- request 2026-01: NotAccessible before it, OutOfMemory after it; a read is filled; populate keeps the pages before the doomed one
+unfoldable pub doomed : Row
+doomed = record {
+  from = around (opened 1 [] []);
+  events = (
+      lazy 0 0x1000 0x1000 1 ∷ refuses (Call.fault 0 0x1000 true) NotAccessible
+      ∷ lazy 0 0x3000 0x1000 rw ∷ lazy 0 0x4000 0x2000 ro
+      ∷ refuses (Call.fault 0 0x4000 true) NotWritable ∷ sees Look.pool (1 ∷ 0 ∷ [])
+      ∷ refuses (Call.populate 0 0x3000 0x3000 true) NotWritable ∷ sees (Look.mapped 0 3) (0 ∷ rw ∷ []) ∷ sees (Look.mapped 0 4) [] ∷ sees Look.pool (0 ∷ 1 ∷ [])
+      ∷ refuses (Call.fault 0 0x5000 true) NotWritable ∷ refuses (Call.fault 0 0x5000 false) OutOfMemory ∷ []);
 }
 
 -- a process is cloned in list order, without its per-thread regions; CopyEager regions get frames of their own, and the parent's stay writable

@@ -1,4 +1,5 @@
-//! Faults, populate and eager populate: the kernel's own, with the entry table's limit before them.
+//! Faults, populate and eager populate: the kernel's own, with the entry table's limit before them. A doomed write,
+//! which the kernel grants once (request 2026-01), is answered here.
 
 use std::sync::Arc;
 
@@ -25,7 +26,9 @@ impl Machine {
         form::user(addr)?;
         let region = process.region_at(addr)?;
         let page = Page::containing_address(VirtAddr::new(addr));
-        self.room_for_entry(process, &region, page.start_address().as_u64(), write)?;
+        let start = page.start_address().as_u64();
+        self.not_doomed(process, &region, start, write)?;
+        self.room_for_entry(process, &region, start, write)?;
         region
             .handle_fault(&process.space, page, write)
             .map_err(refusal)?;
@@ -59,7 +62,7 @@ impl Machine {
 
     pub(super) fn eager(&self, p: u64) -> Result<Answer, Refusal> {
         let process = self.process(p)?;
-        if self.entries_suffice() {
+        if self.entries_suffice() && !self.may_doom(process, true) {
             let done = process.regions.populate_eager_copies(&process.space);
             return done.map(|()| Answer::done()).map_err(refusal);
         }
@@ -86,7 +89,8 @@ impl Machine {
         last: u64,
         write: bool,
     ) -> Result<(), Refusal> {
-        if self.entries_suffice() && last - addr < LONGEST_WALK {
+        let whole = self.entries_suffice() && !self.may_doom(process, write);
+        if whole && last - addr < LONGEST_WALK {
             return hand_over(process, addr, last - addr + 1, write);
         }
         for (region, from, to) in in_regions(process, addr, last) {
@@ -95,7 +99,7 @@ impl Machine {
         Ok(())
     }
 
-    /// Populates inside one region: page by page where the entries can run out.
+    /// Populates inside one region: page by page where the entries can run out, or a write be doomed.
     fn populate_region(
         &self,
         process: &Process,
@@ -104,14 +108,40 @@ impl Machine {
         to: u64,
         write: bool,
     ) -> Result<(), Refusal> {
-        if self.entries_suffice() {
+        if self.entries_suffice() && !(write && is_read_only(region)) {
             return hand_over(process, from, to - from + 1, write);
         }
         for page in (from..=to).step_by(PAGE as usize) {
+            self.not_doomed(process, region, page, write)?;
             self.room_for_entry(process, region, page, write)?;
             hand_over(process, page, 1, write)?;
         }
         Ok(())
+    }
+
+    /// Whether a write to some page of a process may be doomed. An unguarded machine has the Rust's answers alone.
+    fn may_doom(&self, process: &Process, write: bool) -> bool {
+        self.guarded && write && process.attached().iter().any(|region| is_read_only(region))
+    }
+
+    /// `NotWritable` for a write to a read-only region's page that is neither mapped nor backed.
+    fn not_doomed(
+        &self,
+        process: &Process,
+        region: &MemoryRegion,
+        page: u64,
+        write: bool,
+    ) -> Result<(), Refusal> {
+        let doomed = self.guarded
+            && write
+            && is_read_only(region)
+            && process.space.translate_flags(VirtAddr::new(page)).is_none()
+            && !is_backed(&probe::see(region), page);
+        if doomed {
+            Err(Refusal::NotWritable)
+        } else {
+            Ok(())
+        }
     }
 
     /// Each new entry takes a frame, so there are enough entries if the free frames are fewer.
@@ -174,6 +204,19 @@ pub(super) fn hand_over(
         .regions
         .populate(&process.space, addr, len as usize, write);
     done.map_err(refusal)
+}
+
+/// Whether a region lets a process read its pages and not write them.
+fn is_read_only(region: &MemoryRegion) -> bool {
+    let (SeenKind::Private(marks) | SeenKind::File(marks, _)) = probe::see(region).kind else {
+        return false;
+    };
+    let user = marks.flags.contains(PageTableFlags::USER_ACCESSIBLE);
+    user && !marks.flags.contains(PageTableFlags::WRITABLE)
+}
+
+fn is_backed(seen: &Seen, page: u64) -> bool {
+    seen.range.is_some() || seen.pages.iter().any(|(at, ..)| *at == page)
 }
 
 /// Whether a fault would end with a new page entry, if the table had one left.

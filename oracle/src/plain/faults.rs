@@ -27,9 +27,7 @@ impl PlainMachine {
         }
         match (mapping, backing) {
             (Some((_, f)), _) if !write || f & WRITABLE != 0 => Ok(()),
-            (Some(_), _) | (None, Some(_)) if write && flags & WRITABLE == 0 => {
-                Err(Refusal::NotWritable)
-            }
+            (_, _) if write && flags & WRITABLE == 0 => Err(Refusal::NotWritable),
             (Some((frame, _)), _) if holders == 1 => {
                 self.process_mut(p)?.map(page, frame, flags);
                 Ok(())

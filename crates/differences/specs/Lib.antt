@@ -1,0 +1,4 @@
+-- Where a request departs from the Rust: the definition as it was, exactly when the new one differs, and that all else is as it was. One pair of rooms a request.
+-- 2026-01, the doomed write
+pub mod DoomedWrite
+pub mod DoomedWriteLaws

@@ -1,0 +1,1 @@
+// Theorems alone: where a request departs from the Rust, and where not.
