@@ -148,7 +148,7 @@ mod timed {
 
     impl Batch {
         /// The first 1,000 calls of a sequence that the Rust itself answers: those that the harness refuses for it, by form or by a
-        /// full table, are left out.
+        /// full table, and those that go by a request's rule are left out.
         fn draw(seed: u64) -> Self {
             let mut script = MachineScript::new(seed);
             loop {
@@ -168,6 +168,9 @@ mod timed {
             for call in drawn.filter(|call| typed(call).is_some()) {
                 if calls.len() == CALLS {
                     break;
+                }
+                if machine.by_request(&call) {
+                    continue;
                 }
                 let answer = machine.answer(&call);
                 if !by_harness(&call, &answer) {

@@ -2,3 +2,6 @@
 -- 2026-01, the doomed write
 pub mod DoomedWrite
 pub mod DoomedWriteLaws
+-- 2026-02, eager populate by the access that a region grants
+pub mod EagerAccess
+pub mod EagerAccessLaws

@@ -28,7 +28,7 @@ use Rattle.isolation.specs.LoneHolder.{lone-alone}
 use Rattle.isolation.specs.LoadShows.{stores-stay-home}
 use Rattle.isolation.specs.EagerClone.{eager-clone-owns, eager-fork-owns}
 use Rattle.isolation.specs.RunStays.{view-stays, view-stays-long, clone-keeps-bytes, clone-loads, fork-keeps-bytes, fork-loads, fork-part-keeps-bytes}
-use Rattle.isolation.specs.FilesStay.{files-stay}
+use Rattle.model.specs.FileLaws.{run-keeps-bytes}
 use Rattle.isolation.specs.BackedReads.{backed-reads}
 
 -- ---- the books
@@ -91,7 +91,7 @@ guarantee s sound = record {
   stores = stores-stay-home s sound;
   stays = view-stays s sound;
   staysLong = view-stays-long s sound;
-  files = files-stay s;
+  files = λ l. run-keeps-bytes l s;
   clone = clone-keeps-bytes s sound;
   loads = clone-loads s sound;
   fork = fork-keeps-bytes s sound;

@@ -28,7 +28,6 @@ pub mod CloneStays
 pub mod EagerClone
 -- runs of calls, POSIX, and demand 3 whole
 pub mod RunStays
-pub mod FilesStay
 pub mod PosixHolds
 pub mod BackedReads
 pub mod Guaranteed

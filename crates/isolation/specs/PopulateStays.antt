@@ -3,17 +3,17 @@ use mathlib.Core.Path.{_≡_, refl}
 use mathlib.Core.Bool.{Bool, true, false, _&&_, cond}
 use mathlib.Core.List.{List, [], _∷_}
 use Prim.Native.Nat.{ℕ, zero, suc, _+_, _/_}
-use lib.Dec.{eqb, ltb}
+use lib.Dec.{ltb}
 use Rattle.model.specs.declared.Found.{Found}
 use Rattle.model.specs.declared.Found.the-variants.{At, Nothing}
 use Rattle.model.specs.declared.Done.{Done}
 use Rattle.model.specs.declared.Done.the-variants.{Yes, No}
 use Rattle.model.specs.Machine.{State, regionAt, orderOf, mappedOf}
 use Rattle.model.specs.Answers.{Try, fine, andThen}
-use Rattle.model.specs.Lookup.{regionFor, isPrivate}
+use Rattle.model.specs.Lookup.{regionFor}
 use Rattle.model.specs.Paging.{pageStart, translate, wellMapped}
 use Rattle.model.specs.Fault.{handleFault}
-use Rattle.model.specs.Populate.{populatePage, nextStart, visit, visits, lastAddress, nothingToDo, corePopulate, eagerly, eagerlyEach, corePopulateEagerCopies}
+use Rattle.model.specs.Populate.{populatePage, nextStart, visit, visits, lastAddress, nothingToDo, corePopulate, eagerRegion, eagerAccess, eagerly, eagerlyEach, corePopulateEagerCopies}
 use Rattle.model.specs.Refusals.{populateRefusals, processRefusals}
 use Rattle.model.specs.Calls as calls
 use Rattle.model.specs.Run.{Call, call, step}
@@ -66,10 +66,10 @@ module _ (q c : ℕ) where
 
   eagerly-same : (s : State) → Sound s → (p t : ℕ) → Kept s q c (eagerly s p t .state)
   unfolding eagerly
-  eagerly-same s sound p t = go (isPrivate (regionAt (s .machine) p t) && eqb (regionAt (s .machine) p t .fork) 1)
+  eagerly-same s sound p t = go (eagerRegion (regionAt (s .machine) p t))
     where
-      go : (b : Bool) → Kept s q c (cond b (corePopulate s p (regionAt (s .machine) p t .start .0) (regionAt (s .machine) p t .size) true) (fine s) .state)
-      go true = core-populate s sound p _ _ true
+      go : (b : Bool) → Kept s q c (cond b (corePopulate s p (regionAt (s .machine) p t .start .0) (regionAt (s .machine) p t .size) (eagerAccess (regionAt (s .machine) p t))) (fine s) .state)
+      go true = core-populate s sound p _ _ _
       go false = (sound, same-refl s q c)
 
   each-same : (l : List ℕ) (s : State) → Sound s → (p : ℕ) → Kept s q c (eagerlyEach l s p .state)

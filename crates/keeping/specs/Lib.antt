@@ -35,6 +35,7 @@ pub mod FaultWayLaws
 pub mod OwnFrameKept
 pub mod FaultKept
 pub mod PopulateKept
+pub mod RegionsStay
 -- removal
 pub mod DropKept
 pub mod RemovalKept

@@ -3,17 +3,17 @@ use mathlib.Core.Path.{_≡_, refl}
 use mathlib.Core.Bool.{Bool, true, false, _&&_, cond}
 use mathlib.Core.List.{List, [], _∷_}
 use Prim.Native.Nat.{ℕ, zero, suc, _+_, _/_}
-use lib.Dec.{eqb, ltb}
+use lib.Dec.{ltb}
 use Rattle.model.specs.declared.Done.{Done}
 use Rattle.model.specs.declared.Done.the-variants.{Yes, No}
 use Rattle.model.specs.declared.Found.{Found}
 use Rattle.model.specs.declared.Found.the-variants.{At, Nothing}
 use Rattle.model.specs.Machine.{State, regionAt, orderOf, mappedOf}
 use Rattle.model.specs.Answers.{Try, fine, andThen}
-use Rattle.model.specs.Lookup.{regionFor, contains, isPrivate}
+use Rattle.model.specs.Lookup.{regionFor, contains}
 use Rattle.model.specs.Paging.{pageStart, translate, wellMapped}
 use Rattle.model.specs.Fault.{handleFault}
-use Rattle.model.specs.Populate.{nextStart, populatePage, visit, visits, nothingToDo, lastAddress, corePopulate, eagerly, eagerlyEach, corePopulateEagerCopies}
+use Rattle.model.specs.Populate.{nextStart, populatePage, visit, visits, nothingToDo, lastAddress, corePopulate, eagerRegion, eagerAccess, eagerly, eagerlyEach, corePopulateEagerCopies}
 use Rattle.model.specs.Calls as calls
 use Rattle.model.specs.Run.{Call, call, step}
 use Rattle.model.specs.Sound.{Sound}
@@ -82,13 +82,13 @@ pub populate-kept : (s : State) → Sound s → (p a len : ℕ) (w : Bool) → S
 unfolding step call calls.populate
 populate-kept s sound p a len w = guarded-kept s _ _ _ sound (λ k. core-populate s sound p a len w)
 
--- a region's pages, if it is Private CopyEager
+-- a region's pages, if eager populate visits it
 pub eagerly-kept : (s : State) → Sound s → (p t : ℕ) → Sound (eagerly s p t .state)
 unfolding eagerly
-eagerly-kept s sound p t = go (isPrivate (regionAt (s .machine) p t) && eqb (regionAt (s .machine) p t .fork) 1)
+eagerly-kept s sound p t = go (eagerRegion (regionAt (s .machine) p t))
   where
-    go : (b : Bool) → Sound (cond b (corePopulate s p (regionAt (s .machine) p t .start .0) (regionAt (s .machine) p t .size) true) (fine s) .state)
-    go true = core-populate s sound p _ _ true
+    go : (b : Bool) → Sound (cond b (corePopulate s p (regionAt (s .machine) p t .start .0) (regionAt (s .machine) p t .size) (eagerAccess (regionAt (s .machine) p t))) (fine s) .state)
+    go true = core-populate s sound p _ _ _
     go false = sound
 
 each-kept : (l : List ℕ) (s : State) → Sound s → (p : ℕ) → Sound (eagerlyEach l s p .state)

@@ -3,7 +3,7 @@ use mathlib.Core.Path.{_≡_, refl, _∙_}
 use mathlib.Core.Bool.{Bool, true, false, _&&_, not, cond}
 use mathlib.Core.List.{List, [], _∷_}
 use Prim.Native.Nat.{ℕ, zero, suc, _+_, _/_}
-use lib.Dec.{eqb, ltb}
+use lib.Dec.{ltb}
 use Rattle.answers.specs.declared.Refusal.{Refusal}
 use Rattle.answers.specs.declared.Refusal.the-variants.{BadTable}
 use Rattle.model.specs.declared.Region.{Region}
@@ -17,12 +17,12 @@ use Rattle.model.specs.declared.Done.the-variants.{Yes, No}
 use Rattle.laws.specs.Lists.{each}
 use Rattle.model.specs.Machine.{State, regionAt, mappedOf}
 use Rattle.model.specs.Answers.{After, Try, fine, firstOf, unless, andThen}
-use Rattle.model.specs.Lookup.{regionFor, isPrivate, pagesFor}
+use Rattle.model.specs.Lookup.{regionFor, pagesFor}
 use Rattle.model.specs.Paging.{pageStart, translate, wellMapped}
 use Rattle.model.specs.Create.{withRun, runNeeded, coreCreate}
 use Rattle.model.specs.Backing.{lowestRun}
 use Rattle.model.specs.Fault.{faultWay, wayRefusals, goWay, ownFrame, handleFault}
-use Rattle.model.specs.Populate.{populatePage, nextStart, visit, visits, nothingToDo, lastAddress, corePopulate, eagerly, eagerlyEach, corePopulateEagerCopies}
+use Rattle.model.specs.Populate.{populatePage, nextStart, visit, visits, nothingToDo, lastAddress, corePopulate, eagerRegion, eagerAccess, eagerly, eagerlyEach, corePopulateEagerCopies}
 use Rattle.model.specs.Carve.{coreCarve}
 use Rattle.model.specs.Clone.{Held, isCopied, cloneRefusals, shareInto, copyEntry, copyInto, coreCloneRegion, cloneEach, coreClone}
 use Rattle.model.specs.Access.{stored}
@@ -99,7 +99,7 @@ eagerly-same : (s : State) (p slot : ℕ) → Same s (eagerly s p slot .state)
 unfolding eagerly
 eagerly-same s p slot =
     let r = regionAt (s .machine) p slot in
-    cond-same s (isPrivate r && eqb (r .fork) 1) (corePopulate s p (r .start .0) (r .size) true) (fine s) (populate-same s p (r .start .0) (r .size) true) refl
+    cond-same s (eagerRegion r) (corePopulate s p (r .start .0) (r .size) (eagerAccess r)) (fine s) (populate-same s p (r .start .0) (r .size) (eagerAccess r)) refl
 
 eager-each-same : (l : List ℕ) (s : State) (p : ℕ) → Same s (eagerlyEach l s p .state)
 unfolding eagerlyEach

@@ -4,12 +4,13 @@ use mathlib.Core.List.{List, [], _∷_, map}
 use Prim.Native.Nat.{ℕ, zero, suc, _+_, _-_, _/_, _^_}
 use lib.Dec.{eqb, ltb, leb}
 use Rattle.address.specs.Canonical.{canonical, user}
+use Rattle.model.specs.declared.Region.{Region}
 use Rattle.model.specs.declared.Found.{Found}
 use Rattle.model.specs.declared.Found.the-variants.{At, Nothing}
 use Rattle.model.specs.Machine.{Machine, State, regionAt, orderOf, mappedOf, pages, slots}
 use Rattle.model.specs.Answers.{Try, fine, andThen}
 use Rattle.model.specs.Lookup.{regionFor, isPrivate}
-use Rattle.model.specs.Paging.{pageStart, translate, wellMapped}
+use Rattle.model.specs.Paging.{pageStart, translate, wellMapped, isUser, isWritable}
 use Rattle.model.specs.Fault.{handleFault}
 
 -- the lowest of some numbers that is above n, with one number more
@@ -82,12 +83,19 @@ corePopulate s p a len w =
     let walk = visit visits s p (a / 4096) (lastAddress a len / 4096) w in
     cond (nothingToDo a len) (fine s) walk
 
--- RULES U4: eager populate asks for write access on every Private CopyEager region
+-- RULES U4 (request 2026-02): eager populate visits every Private CopyEager region with user access,
+abbrev pub eagerRegion : Region → Bool
+eagerRegion r = (isPrivate r && eqb (r .fork) 1) && isUser (r .flags .0)
+
+-- .. for writing where it is writable, for reading where it is not
+abbrev pub eagerAccess : Region → Bool
+eagerAccess r = isWritable (r .flags .0)
+
 unfoldable pub eagerly : State → ℕ → ℕ → Try
 eagerly s p slot =
     let r = regionAt (s .machine) p slot in
-    let all = corePopulate s p (r .start .0) (r .size) true in
-    cond (isPrivate r && eqb (r .fork) 1) all (fine s)
+    let all = corePopulate s p (r .start .0) (r .size) (eagerAccess r) in
+    cond (eagerRegion r) all (fine s)
 
 unfoldable pub eagerlyEach : List ℕ → State → ℕ → Try
 eagerlyEach [] s p = fine s

@@ -132,7 +132,20 @@ rights = record {
       ∷ does (Call.load 0 0x1000) (says Denied (0 ∷ [])) ∷ done (Call.populate 0 0x1000 1 false) ∷ refuses (Call.fault 0 0x1000 false) NotAccessible
       ∷ does (Call.createShared 0 (at 0x4000) 0x1000) (ok (0x4000 ∷ [])) ∷ refuses (Call.protect 0 0x4000 rw) UnsupportedRegion
       ∷ done (Call.fault 0 0x4000 true) ∷ sees (Look.mapped 0 4) (1 ∷ (2 ^ 63 + 7) ∷ [])
-      ∷ does (Call.createPrivate 0 (at 0x6000) false 1 ro true false) (ok (0x6000 ∷ [])) ∷ refuses (Call.eager 0) NotWritable ∷ sees (Look.mapped 0 6) [] ∷ []);
+      ∷ does (Call.createPrivate 0 (at 0x6000) false 1 ro true false) (ok (0x6000 ∷ [])) ∷ done (Call.eager 0) ∷ sees (Look.mapped 0 6) (2 ∷ ro ∷ []) ∷ done (Call.eager 0) ∷ []);
+}
+
+-- request 2026-02: a worker with a sealed area, one without user access and a writable one, all copied eagerly, is cloned and populated;
+-- the sealed area is mapped read-only, the closed one not at all
+unfoldable pub sealed : Row
+sealed = record {
+  from = around (opened 6 [] []);
+  events = (
+      does (Call.createPrivate 0 (at 0x1000) false 0x1000 rw true false) (ok (0x1000 ∷ [])) ∷ does (Call.createPrivate 0 (at 0x3000) false 0x1000 rw true false) (ok (0x3000 ∷ []))
+      ∷ does (Call.createPrivate 0 (at 0x5000) false 0x1000 1 true false) (ok (0x5000 ∷ [])) ∷ done (Call.eager 0) ∷ done (Call.store 0 0x1001 5) ∷ done (Call.protect 0 0x1000 ro)
+      ∷ done (Call.clone 0 1) ∷ done (Call.eager 1)
+      ∷ sees (Look.mapped 1 1) (2 ∷ ro ∷ []) ∷ sees (Look.mapped 1 3) (3 ∷ rw ∷ []) ∷ sees (Look.mapped 1 5) []
+      ∷ byte 1 0x1001 5 ∷ does (Call.store 1 0x1001 6) (says Denied []) ∷ done (Call.store 1 0x3000 7) ∷ byte 0 0x3000 0 ∷ []);
 }
 
 -- request 2026-01: NotAccessible before it, OutOfMemory after it; a read is filled; populate keeps the pages before the doomed one

@@ -12,10 +12,10 @@ use Rattle.laws.specs.BoolLaws.{and-both}
 use Rattle.model.specs.PointTableLaws.{holds-told}
 use Rattle.model.specs.PointRows.{unstarted}
 use Rattle.model.specs.RangeRows.{opened}
-use Rattle.model_points.specs.EdgeRows.{fileEnd, unreadable, carveFull, carveInUse, carveRange, detachedUnpin, cloneOrder, exactSize, rights, doomed, fork, broken, crowded}
+use Rattle.model_points.specs.EdgeRows.{fileEnd, unreadable, carveFull, carveInUse, carveRange, detachedUnpin, cloneOrder, exactSize, rights, sealed, doomed, fork, broken, crowded}
 
 unfoldable pub table : List Row
-table = fileEnd ∷ unreadable ∷ carveFull ∷ carveInUse ∷ carveRange ∷ detachedUnpin ∷ cloneOrder ∷ exactSize ∷ rights ∷ doomed ∷ fork ∷ broken ∷ []
+table = fileEnd ∷ unreadable ∷ carveFull ∷ carveInUse ∷ carveRange ∷ detachedUnpin ∷ cloneOrder ∷ exactSize ∷ rights ∷ sealed ∷ doomed ∷ fork ∷ broken ∷ []
 
 rowb : Row → Bool
 rowb r = holdsb (r .events) (r .from)
@@ -56,6 +56,10 @@ rights-holds : rowb rights ≡ true
 unfolding everything rowb rights unstarted opened
 rights-holds = refl
 
+sealed-holds : rowb sealed ≡ true
+unfolding everything rowb sealed unstarted opened
+sealed-holds = refl
+
 doomed-holds : rowb doomed ≡ true
 unfolding everything rowb doomed unstarted opened
 doomed-holds = refl
@@ -73,7 +77,7 @@ unfolding all table
 all-hold =
     and-both fileEnd-holds (and-both unreadable-holds (and-both carveFull-holds (and-both carveInUse-holds (and-both carveRange-holds (
     and-both detachedUnpin-holds (and-both cloneOrder-holds (and-both exactSize-holds (and-both rights-holds (
-    and-both doomed-holds (and-both fork-holds (and-both broken-holds refl)))))))))))
+    and-both sealed-holds (and-both doomed-holds (and-both fork-holds (and-both broken-holds refl))))))))))))
 
 -- every row of the table holds: each call answers what the row says, and each look sees it
 pub points : (i : ℕ) → i < length table → Holds (getD table i fileEnd .events) (getD table i fileEnd .from)

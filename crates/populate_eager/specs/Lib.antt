@@ -1,4 +1,3 @@
--- Eager populate on lent memory: list order stays, region after region.
-pub mod ListStaysLaws
+-- Eager populate on lent memory, region after region.
 pub mod Tour
 pub mod TourLaws

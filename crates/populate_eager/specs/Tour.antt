@@ -1,23 +1,15 @@
 -- A tour of a process's regions, region by region: what is left of it gives what the whole gives.
 use mathlib.Core.Path.{_≡_}
-use mathlib.Core.Bool.{Bool, _&&_}
 use mathlib.Core.List.{List}
 use Prim.Native.Nat.{ℕ, _+_, _-_, _*_}
 use lib.ListN.{getD}
-use lib.Dec.{eqb}
-use Rattle.model.specs.declared.Region.{Region}
 use Rattle.model.specs.declared.Done.{Done}
 use Rattle.model.specs.declared.Done.the-variants.{Yes, No}
 use Rattle.model.specs.Layout.{machine}
-use Rattle.model.specs.Lookup.{isPrivate}
 use Rattle.model.specs.Answers.{leaving}
 use Rattle.model.specs.Populate.{eagerly}
 use Rattle.rows.specs.LentMemory.{stateOf}
 use Rattle.populate_eager.specs.declared.Tour.{Tour}
-
--- Private and copied eagerly (RULES U4)
-abbrev pub isEagerCopy : Region → Bool
-isEagerCopy r = isPrivate r && eqb (r .fork) 1
 
 -- how a tour goes on from a region: a refusal ends it
 abbrev pub tourAfter : ℕ → ℕ → Done → Tour

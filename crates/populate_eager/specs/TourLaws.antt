@@ -19,8 +19,10 @@ use Rattle.model.specs.declared.Done.the-variants.{Yes, No}
 use Rattle.model.specs.Layout.{machine}
 use Rattle.model.specs.Machine.{State, regionAt, rowOf, orderOf}
 use Rattle.model.specs.Lookup.{isPrivate}
+use Rattle.model.specs.Paging.{isUser}
+use Rattle.laws.specs.BoolLaws.{both-true}
 use Rattle.model.specs.Answers.{Try, leaving, fine, firstOf, andThen}
-use Rattle.model.specs.Populate.{visit, visits, nothingToDo, lastAddress, corePopulate, eagerly, eagerlyEach, corePopulateEagerCopies}
+use Rattle.model.specs.Populate.{visit, visits, nothingToDo, lastAddress, corePopulate, eagerRegion, eagerAccess, eagerly, eagerlyEach, corePopulateEagerCopies}
 use Rattle.model.specs.Refusals.{processRefusals}
 use Rattle.model.specs.Sound.{Sound, Limits}
 use Rattle.model.specs.SoundTest.{soundb}
@@ -30,32 +32,31 @@ use Rattle.rows.specs.LentMemory.{stateOf, wordsAlone, DoesWith}
 use Rattle.lookup.specs.AttachedLaws.{order-slot}
 use Rattle.rows.specs.GuardedLaws.{refused, granted}
 use Rattle.keeping.specs.OwingOfSound.{sound-owing}
-use Rattle.keeping.specs.PopulateKept.{visit-kept}
+use Rattle.keeping.specs.PopulateKept.{eagerly-kept}
+use Rattle.keeping.specs.RegionsStay.{eagerly-stays}
 use Rattle.populate_eager.specs.declared.Tour.{Tour}
-use Rattle.populate_eager.specs.ListStaysLaws.{core-order}
-use Rattle.populate_eager.specs.Tour.{isEagerCopy, tourAfter, Stepped}
+use Rattle.populate_eager.specs.Tour.{tourAfter, Stepped}
 
-pub eager-not : (r : Region) → (r .kind ≡ 1 → ⊥) → false ≡ isEagerCopy r
-eager-not r n = rw (ne-eqb (r .kind) 1 n) refl
+pub eager-kind : (r : Region) → (r .kind ≡ 1 → ⊥) → false ≡ eagerRegion r
+eager-kind r n = rw (ne-eqb (r .kind) 1 n) refl
 
-pub eager-fork : (r : Region) → r .kind ≡ 1 → (b : Bool) → b ≡ eqb (r .fork) 1 → b ≡ isEagerCopy r
-eager-fork r e b g = g ∙ rw (eq-eqb (r .kind) 1 e) refl
+pub eager-fork : (r : Region) → r .kind ≡ 1 → (r .fork ≡ 1 → ⊥) → false ≡ eagerRegion r
+eager-fork r e n = rw (eq-eqb (r .kind) 1 e, ne-eqb (r .fork) 1 n) refl
 
-both : (x y : Bool) → (x && y) ≡ true → x ≡ true
-both true y e = refl
-both false y e = e
+pub eager-user : (r : Region) → r .kind ≡ 1 → r .fork ≡ 1 → (b : Bool) → b ≡ isUser (r .flags .0) → b ≡ eagerRegion r
+eager-user r e f b g = g ∙ rw (eq-eqb (r .kind) 1 e, eq-eqb (r .fork) 1 f) refl
 
-module _ (w f b : List ℕ) (sound : soundb (stateOf w f b) ≡ true) (p slot : ℕ) (r : Region) (row : r ≡ regionAt (machine w) p slot) (c : Bool) (test : c ≡ isEagerCopy r) where
+module _ (w f b : List ℕ) (sound : soundb (stateOf w f b) ≡ true) (p slot : ℕ) (r : Region) (row : r ≡ regionAt (machine w) p slot) (c : Bool) (test : c ≡ eagerRegion r) where
   kept : Sound (stateOf w f b)
   kept = sound-tells (stateOf w f b) .yes sound
 
   pub slot-not : not c ≡ true → DoesWith (λ s. eagerly s p slot) w f b w f Yes
   unfolding eagerly
-  slot-not h = rw (sym (ap (λ (x : Region). isEagerCopy x) row) ∙ sym test ∙ not-true c h) refl
+  slot-not h = rw (sym (ap (λ (x : Region). eagerRegion x) row) ∙ sym test ∙ not-true c h) refl
 
   module _ (h : not c ≡ false) where
     limits : Limits (machine w) (regionAt (machine w) p slot)
-    limits = let k = eqb-true (r .kind) 1 (both (isPrivate r) (eqb (r .fork) 1) (sym test ∙ not-false c h)) in let e = ap (λ (x : Region). x .kind) row in sound-owing (stateOf w f b) kept .regions (rowOf p slot) .used (λ z. omega arith)
+    limits = let k = eqb-true (r .kind) 1 (both-true (isPrivate r) (eqb (r .fork) 1) (both-true (isPrivate r && eqb (r .fork) 1) (isUser (r .flags .0)) (sym test ∙ not-false c h) .0) .0) in let e = ap (λ (x : Region). x .kind) row in sound-owing (stateOf w f b) kept .regions (rowOf p slot) .used (λ z. omega arith)
 
     pub slot-size : (1 ≤ r .size) × (r .start .0 + r .size ≤ 2 ^ 47)
     slot-size = let some = limits .some in let end = limits .userSegment in let a = ap (λ (x : Region). x .size) row in let d = ap (λ (x : Region). x .start .0) row in (omega arith, omega arith)
@@ -68,33 +69,15 @@ module _ (w f b : List ℕ) (sound : soundb (stateOf w f b) ≡ true) (p slot : 
         let d = k .1 in
         rw (ne-eqb (r .size) 0 (λ z. omega arith), lt-leb (2 ^ 64) (r .start .0 + (r .size - 1)) (omega arith), lt-ltb (r .start .0 + (r .size - 1)) (2 ^ 47) (omega arith)) refl
 
-    pub slot-visits : (first last : ℕ) → first ≡ r .start .0 / 4096 → last ≡ (r .start .0 + (r .size - 1)) / 4096 → (w' f' : List ℕ) (d : Done) → DoesWith (λ s. visit visits s p first last true) w f b w' f' d → DoesWith (λ s. eagerly s p slot) w f b w' f' d
+    pub slot-visits : (first last : ℕ) (write : Bool) → first ≡ r .start .0 / 4096 → last ≡ (r .start .0 + (r .size - 1)) / 4096 → write ≡ eagerAccess r
+        → (w' f' : List ℕ) (d : Done) → DoesWith (λ s. visit visits s p first last write) w f b w' f' d → DoesWith (λ s. eagerly s p slot) w f b w' f' d
     unfolding eagerly corePopulate
-    slot-visits first last i j w' f' d does =
-        rw (sym (ap (λ (x : Region). isEagerCopy x) row) ∙ sym test ∙ not-false c h)
-        (sym (ap (λ (x : Region). corePopulate (stateOf w f b) p (x .start .0) (x .size) true) row)
-        ∙ ap (λ (n : Bool). cond n (fine (stateOf w f b)) (visit visits (stateOf w f b) p (r .start .0 / 4096) ((r .start .0 + (r .size - 1)) / 4096) true)) todo
-        ∙ sym (λ q. visit visits (stateOf w f b) p (i q) (j q) true)
+    slot-visits first last write i j a w' f' d does =
+        rw (sym (ap (λ (x : Region). eagerRegion x) row) ∙ sym test ∙ not-false c h)
+        (sym (ap (λ (x : Region). corePopulate (stateOf w f b) p (x .start .0) (x .size) (eagerAccess x)) row)
+        ∙ ap (λ (n : Bool). cond n (fine (stateOf w f b)) (visit visits (stateOf w f b) p (r .start .0 / 4096) ((r .start .0 + (r .size - 1)) / 4096) (eagerAccess r))) todo
+        ∙ sym (λ q. visit visits (stateOf w f b) p (i q) (j q) (a q))
         ∙ does)
-
--- it leaves a sound machine, and list order as it was
-slot-sound : (s : State) → Sound s → (p slot : ℕ) → Sound (eagerly s p slot .state)
-unfolding eagerly corePopulate
-slot-sound s k p slot = go (isEagerCopy (regionAt (s .machine) p slot)) (nothingToDo (regionAt (s .machine) p slot .start .0) (regionAt (s .machine) p slot .size))
-  where
-    go : (c n : Bool) → Sound (cond c (cond n (fine s) (visit visits s p (regionAt (s .machine) p slot .start .0 / 4096) (lastAddress (regionAt (s .machine) p slot .start .0) (regionAt (s .machine) p slot .size) / 4096) true)) (fine s) .state)
-    go true true = k
-    go true false = visit-kept visits s k p _ _ true
-    go false true = k
-    go false false = k
-
-slot-order : (s : State) (p slot q : ℕ) → orderOf (eagerly s p slot .state .machine) q ≡ orderOf (s .machine) q
-unfolding eagerly
-slot-order s p slot q = go (isEagerCopy (regionAt (s .machine) p slot))
-  where
-    go : (c : Bool) → orderOf (cond c (corePopulate s p (regionAt (s .machine) p slot .start .0) (regionAt (s .machine) p slot .size) true) (fine s) .state .machine) q ≡ orderOf (s .machine) q
-    go true = core-order s p _ _ true q
-    go false = refl
 
 pub after-refused : (next left : ℕ) (d : Done) (r : Refusal) → d ≡ No r → record { next = 0; left = 0; done = No r } ≡ tourAfter next left d
 after-refused next left d r e = ap (λ (y : Done). tourAfter next left y) (sym e)
@@ -174,8 +157,8 @@ module _ (p : ℕ) (l : List ℕ) (all : Try) (at : Tour) (w f b : List ℕ) (k 
   touring-more =
       record {
         same = stepped-same;
-        sound = told (sound-tells (stateOf w' f' b)) (subst (λ (y : Try). Sound (y .state)) (g .does) (slot-sound s (sound-tells s .yes (k .sound)) p (g .slot)));
-        order = sym (ap (λ (y : Try). orderOf (y .state .machine) p) (g .does)) ∙ slot-order s p (g .slot) p ∙ k .order;
+        sound = told (sound-tells (stateOf w' f' b)) (subst (λ (y : Try). Sound (y .state)) (g .does) (eagerly-kept s (sound-tells s .yes (k .sound)) p (g .slot)));
+        order = sym (ap (λ (y : Try). orderOf (y .state .machine) p) (g .does)) ∙ eagerly-stays s p (g .slot) .order p ∙ k .order;
         few = k .few;
         counts = subst (λ (v : Tour). v .done ≡ Yes → v .next + v .left ≡ length l) (sym (g .next)) (counted (g .done));
         goes = subst (λ (v : Tour). 0 < v .left → v .done ≡ Yes) (sym (g .next)) (going (g .done));

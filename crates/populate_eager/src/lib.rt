@@ -1,14 +1,15 @@
-// Eager populate: every Private CopyEager region of a process populated for writing, in list order. The Rust's populate_eager_copies.
+// Eager populate: every Private CopyEager region of a process populated by the access that it grants, in list order. The Rust's
+// populate_eager_copies.
 ghost use mathlib.Core.Path.{_≡_};
 ghost use mathlib.Core.Bool.{true};
 ghost use Prim.Native.Nat.{_<_};
 ghost use lib.ListN.{length};
 ghost use Rattle.model.specs.Layout.{wordCount};
 ghost use Rattle.model.specs.SoundTest.{soundb};
-ghost use Rattle.model.specs.Populate.{eagerly, corePopulateEagerCopies};
+ghost use Rattle.model.specs.Populate.{eagerRegion, eagerly, corePopulateEagerCopies};
 ghost use Rattle.model.specs.Calls.{eager};
 ghost use Rattle.rows.specs.LentMemory.{stateOf, DoesWith};
-ghost use Rattle.populate_eager.specs.Tour.{isEagerCopy, tourAfter, Stepped};
+ghost use Rattle.populate_eager.specs.Tour.{tourAfter, Stepped};
 use address::Page;
 use address::VirtAddr;
 use lookup::attached::attached_count;
@@ -29,14 +30,17 @@ pub struct Tour {
     pub done: Done,
 }
 
-// Whether a region is Private and copied eagerly.
+// Whether a region is Private, copied eagerly and open to the process.
 fn is_eager(region: Region) -> bool
-    ensures { λ r. ⌜ r ≡ isEagerCopy region ⌝ }
+    ensures { λ r. ⌜ r ≡ eagerRegion region ⌝ }
 {
     if region.kind != PRIVATE {
         return false;
     }
-    region.fork == COPY_EAGER
+    if region.fork != COPY_EAGER {
+        return false;
+    }
+    region.flags.is_user_accessible()
 }
 
 // How a tour goes on from a region: a refusal ends it.
@@ -63,7 +67,7 @@ fn after_region(next: usize, left: usize, done: Done) -> Tour
     }
 }
 
-// Populates the region in a slot for writing if it is copied eagerly, of a sound machine.
+// Populates the region in a slot, if it is one to visit: for writing where it is writable, else for reading. Of a sound machine.
 fn eager_slot(
     words: &mut [u64],
     frames: &mut [u8],
@@ -82,7 +86,8 @@ fn eager_slot(
     }
     let first = Page::containing_address(region.start);
     let last = Page::containing_address(VirtAddr(region.start.0 + (region.size - 1)));
-    visit(words, frames, files, process, first, last, true)
+    let write = region.flags.is_writable();
+    visit(words, frames, files, process, first, last, write)
 }
 
 // The next region of a tour, of a sound machine.

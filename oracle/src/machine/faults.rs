@@ -14,6 +14,7 @@ use super::form::{self, PAGE, USER_END};
 use super::process::Process;
 use super::{ENTRIES, Machine};
 use crate::answer::{Answer, Refusal};
+use crate::calls::MachineCall;
 
 /// The kernel walks every page of a range. A longer range is handed to it region by region, for the
 /// pages between regions change nothing.
@@ -60,23 +61,22 @@ impl Machine {
         Ok(Answer::done())
     }
 
+    /// The kernel asks for write access everywhere; where that is not what a region grants (request 2026-02), or the
+    /// entries can run out, its regions are populated one by one.
     pub(super) fn eager(&self, p: u64) -> Result<Answer, Refusal> {
         let process = self.process(p)?;
-        if self.entries_suffice() && !self.may_doom(process, true) {
+        let eager: Vec<_> = process
+            .attached()
+            .iter()
+            .filter_map(|region| eager_region(region))
+            .collect();
+        let agreed = eager.iter().all(|region| region.user && region.writable);
+        if self.entries_suffice() && (agreed || !self.guarded) {
             let done = process.regions.populate_eager_copies(&process.space);
             return done.map(|()| Answer::done()).map_err(refusal);
         }
-        for region in process.attached() {
-            if let Seen {
-                start,
-                size,
-                kind: SeenKind::Private(marks),
-                ..
-            } = probe::see(&region)
-                && marks.fork == ForkPolicy::CopyEager
-            {
-                self.populate_to(process, start, start + (size - 1), true)?;
-            }
+        for region in eager.iter().filter(|region| region.user) {
+            self.populate_to(process, region.start, region.last, region.writable)?;
         }
         Ok(Answer::done())
     }
@@ -117,6 +117,22 @@ impl Machine {
             hand_over(process, page, 1, write)?;
         }
         Ok(())
+    }
+
+    /// Whether a call may go by a request's rule and not by the Rust's: a write may be doomed (2026-01), or eager populate
+    /// meets a region that it may not write (2026-02).
+    pub fn by_request(&self, call: &MachineCall) -> bool {
+        let of = |p: u64| self.process(p).ok();
+        match *call {
+            MachineCall::Fault { p, write, .. } | MachineCall::Populate { p, write, .. } => {
+                of(p).is_some_and(|process| self.may_doom(process, write))
+            }
+            MachineCall::Eager { p } => of(p).is_some_and(|process| {
+                let mut eager = process.attached().into_iter().filter_map(|r| eager_region(&r));
+                eager.any(|region| !region.user || !region.writable)
+            }),
+            _ => false,
+        }
     }
 
     /// Whether a write to some page of a process may be doomed. An unguarded machine has the Rust's answers alone.
@@ -204,6 +220,27 @@ pub(super) fn hand_over(
         .regions
         .populate(&process.space, addr, len as usize, write);
     done.map_err(refusal)
+}
+
+/// A Private CopyEager region: where it lies, and what it grants.
+struct EagerRegion {
+    start: u64,
+    last: u64,
+    user: bool,
+    writable: bool,
+}
+
+fn eager_region(region: &MemoryRegion) -> Option<EagerRegion> {
+    let seen = probe::see(region);
+    let SeenKind::Private(marks) = seen.kind else {
+        return None;
+    };
+    (marks.fork == ForkPolicy::CopyEager).then(|| EagerRegion {
+        start: seen.start,
+        last: seen.start + (seen.size - 1),
+        user: marks.flags.contains(PageTableFlags::USER_ACCESSIBLE),
+        writable: marks.flags.contains(PageTableFlags::WRITABLE),
+    })
 }
 
 /// Whether a region lets a process read its pages and not write them.

@@ -151,10 +151,12 @@ impl PlainMachine {
         let asks = |r: &&Region| matches!(r.kind, RegionKind::Private(marks) if marks.copy);
         let regions = self.process(p)?.attached.iter().filter(asks);
         let spans: Vec<_> = regions
-            .map(|region| (region.start, region.end() - 1))
+            .filter_map(|r| Some((r.start, r.end() - 1, r.flags()?)))
             .collect();
-        for (start, last) in spans {
-            self.visit(p, start, last, true)?;
+        for (start, last, flags) in spans {
+            if flags & USER != 0 {
+                self.visit(p, start, last, flags & WRITABLE != 0)?;
+            }
         }
         Ok(Answer::done())
     }

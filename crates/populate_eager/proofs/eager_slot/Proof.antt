@@ -20,15 +20,15 @@ returns c = slot-not _ _ _ (c .before .before .before .before .before .before .b
 containing-address-requires : tie.Need-containing-address-requires
 containing-address-requires c κs = search needs
 
-sub-t13 : tie.Need-sub-t13
-sub-t13 c =
+sub-t14 : tie.Need-sub-t14
+sub-t14 c =
     let k = slot-size _ _ _ (c .before .before .before .before .before .before .before .before .before .pre .1 .0) _ _ _ (c .before .before .before .before .region-in .ensures) _ (c .before .before .before .is-eager .ensures) (c .before .before .if1 .left) in
     let a = k .0 in
     let d = k .1 in
     omega arith
 
-add-t14 : tie.Need-add-t14
-add-t14 c =
+add-t15 : tie.Need-add-t15
+add-t15 c =
     let k = slot-size _ _ _ (c .before .before .before .before .before .before .before .before .before .before .pre .1 .0) _ _ _ (c .before .before .before .before .before .region-in .ensures) _ (c .before .before .before .before .is-eager .ensures) (c .before .before .before .if1 .left) in
     let a = k .0 in
     let d = k .1 in
@@ -37,13 +37,16 @@ add-t14 c =
 containing-address-requires-2 : tie.Need-containing-address-requires-2
 containing-address-requires-2 c κs = search needs
 
+is-writable-requires : tie.Need-is-writable-requires
+is-writable-requires c κs = search needs
+
 visit-requires : tie.Need-visit-requires
 visit-requires c κs =
-    let k = slot-size _ _ _ (c .before .before .before .before .before .before .before .before .before .before .before .before .before .pre .1 .0) _ _ _ (c .before .before .before .before .before .before .before .before .region-in .ensures) _ (c .before .before .before .before .before .before .before .is-eager .ensures) (c .before .before .before .before .before .before .if1 .left) in
+    let k = slot-size _ _ _ (c .before .before .before .before .before .before .before .before .before .before .before .before .before .before .pre .1 .0) _ _ _ (c .before .before .before .before .before .before .before .before .before .region-in .ensures) _ (c .before .before .before .before .before .before .before .before .is-eager .ensures) (c .before .before .before .before .before .before .before .if1 .left) in
     let a = k .0 in
     let d = k .1 in
-    let e = c .before .before .containing-address2 .ensures in
-    let top = c .before .before .before .before .before .before .before .before .before .before .before .before .before in
+    let e = c .before .before .before .containing-address2 .ensures in
+    let top = c .before .before .before .before .before .before .before .before .before .before .before .before .before .before in
     (search needs, (top .pre .1 .0, (top .pre .1 .1, omega arith)))
 
 same-length-2 : tie.Need-same-length-2
@@ -54,7 +57,7 @@ same-length-3 c = search needs
 
 returns-2 : tie.Need-returns-2
 returns-2 c =
-    slot-visits _ _ _ (c .before .before .before .before .before .before .before .before .before .before .before .before .before .before .before .before .before .before .pre .1 .0) _ _ _ (c .before .before .before .before .before .before .before .before .before .before .before .before .before .region-in .ensures) _ (c .before .before .before .before .before .before .before .before .before .before .before .before .is-eager .ensures) (c .before .before .before .before .before .before .before .before .before .before .before .if1 .left) _ _ (c .before .before .before .before .before .before .before .before .before .before .containing-address .ensures) (c .before .before .before .before .before .before .before .containing-address2 .ensures) _ _ _ (c .before .before .before .before .visit .ensures)
+    slot-visits _ _ _ (c .before .before .before .before .before .before .before .before .before .before .before .before .before .before .before .before .before .before .before .pre .1 .0) _ _ _ (c .before .before .before .before .before .before .before .before .before .before .before .before .before .before .region-in .ensures) _ (c .before .before .before .before .before .before .before .before .before .before .before .before .before .is-eager .ensures) (c .before .before .before .before .before .before .before .before .before .before .before .before .if1 .left) _ _ _ (c .before .before .before .before .before .before .before .before .before .before .before .containing-address .ensures) (c .before .before .before .before .before .before .before .before .containing-address2 .ensures) (c .before .before .before .before .before .before .before .is-writable .ensures) _ _ _ (c .before .before .before .before .visit .ensures)
 
 pub eager-slot-spec : {M : Type 1} → statement M
 eager-slot-spec =
@@ -65,9 +68,10 @@ eager-slot-spec =
     same-length
     returns
     containing-address-requires
-    sub-t13
-    add-t14
+    sub-t14
+    add-t15
     containing-address-requires-2
+    is-writable-requires
     visit-requires
     same-length-2
     same-length-3
