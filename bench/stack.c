@@ -204,6 +204,18 @@ static const struct export {
 };
 enum { EXPORTS = sizeof exports / sizeof *exports, VARIATIONS = 4 };
 
+/* ---- covers, at 0, 1 and 64 regions: its core, which tests nothing (bench_c), and the call */
+
+uint64_t tables_covers(const uint64_t *words, size_t words_len, size_t process, uint64_t start, uint64_t end);
+
+static const struct fill covered[] = { { "0 regions", 1, 0, 0, 0, 0 }, { "1 region", 1, 1, 1, 0, 0 }, { "64 regions", 1, 64, 4, 1, 0 } };
+enum { COVERED = sizeof covered / sizeof *covered };
+
+/* The lowest region, which comes last in the list. */
+static uint64_t covers_core(struct machine *m, unsigned k) { (void)k; return tables_covers(m->words, MACHINE_WORDS, 0, BASE, BASE + PAGES * PAGE); }
+
+static uint64_t covers_call(struct machine *m, unsigned k) { (void)k; return machine_covers(LENT(m), 0, BASE, BASE + PAGES * PAGE, out, 1) == 0 ? out[0] : 2; }
+
 /* ---- the painted stack */
 
 static unsigned char stack[STACK] __attribute__((aligned(64)));
@@ -228,6 +240,28 @@ static size_t painted(uint64_t (*run)(struct machine *, unsigned), unsigned k) {
     size_t low = 0;
     while (low < sizeof stack && stack[low] == PAINT) low++;
     return sizeof stack - low;
+}
+
+/* A line for each number of regions. The core's stack must not hang on it. */
+static int covers_lines(size_t base) {
+    size_t first = 0;
+    int status = 0;
+    for (unsigned i = 0; i < COVERED; i++) {
+        static struct machine m;
+        build(&m, &covered[i]);
+        tried = m;
+        size_t core = painted(covers_core, i) - base;
+        uint64_t done = answer;
+        size_t call = painted(covers_call, i) - base;
+        printf("covers, %-16s %6zu its core, %zu the call\n", covered[i].name, core, call);
+        if (done != (covered[i].regions > 0) || answer != done) {
+            fprintf(stderr, "stack: covers is wrong at %s\n", covered[i].name);
+            return 2;
+        }
+        if (i == 0) first = core;
+        if (core != first || call > LIMIT) status = 1;
+    }
+    return status;
 }
 
 int main(void) {
@@ -264,5 +298,6 @@ int main(void) {
             status = 2;
         }
     }
-    return status;
+    int lines = covers_lines(base);
+    return status > lines ? status : lines;
 }

@@ -63,6 +63,7 @@ mod timed {
     enum Timed {
         Remove { p: u64, addr: u64 },
         Carve { p: u64, start: u64, end: u64 },
+        Covers { p: u64, start: u64, end: u64 },
         Fault { p: u64, addr: u64 },
         Populate { p: u64, addr: u64, len: u64 },
         CloneRegion { p: u64, addr: u64, target: u64 },
@@ -81,7 +82,7 @@ mod timed {
             "nanoseconds a call, the least of {ROUNDS} rounds, each on the machine made anew\n"
         );
         println!("{:<52}  calls   proved     Rust  ratio", "");
-        let rows = [faults(), clones(), carves(), others()];
+        let rows = [faults(), clones(), carves(), covers(), others()];
         for row in rows.into_iter().flatten() {
             let (proved, rust) = row.times();
             let (name, calls, ratio) = (row.name, row.calls.len(), proved / rust);
@@ -184,6 +185,35 @@ mod timed {
                 before: [opened(8), (0..8).flat_map(|p| many(p, 62)).collect()].concat(),
                 calls: (0..8).map(middle).collect(),
             },
+        ]
+    }
+
+    /// All of the range that regions of a page each cover. In a list that falls, each step along the range finds its region last.
+    fn covers() -> Vec<Row> {
+        let row = |name, order: &[u64]| Row {
+            name,
+            before: [
+                opened(1),
+                order.iter().map(|i| lazy(0, FIRST + i * PAGE, 1)).collect(),
+            ]
+            .concat(),
+            calls: vec![
+                Timed::Covers {
+                    p: 0,
+                    start: FIRST,
+                    end: FIRST + order.len() as u64 * PAGE,
+                };
+                64
+            ],
+        };
+        let rising: Vec<u64> = (0..PAGES).collect();
+        let falling: Vec<u64> = (0..PAGES).rev().collect();
+        let mixed: Vec<u64> = (0..PAGES).map(|i| i * 37 % PAGES).collect();
+        vec![
+            row("covers, 1 region", &[0]),
+            row("covers, 64 regions, rising", &rising),
+            row("covers, 64 regions, falling", &falling),
+            row("covers, 64 regions, mixed", &mixed),
         ]
     }
 
@@ -303,7 +333,7 @@ mod timed {
                 work.clone_from(&lent);
                 work.steps(&[]);
                 tested = tested.min(timed(|| assert_eq!(work.steps(&[]), 0)));
-                let granted = calls.len() / CALL_WORDS;
+                let granted = self.calls.iter().filter(|call| call.counts()).count();
                 proved = proved.min(timed(|| assert_eq!(work.steps(&calls), granted as u64)));
                 let machine = self.machine();
                 rust = rust.min(timed(|| {
@@ -355,11 +385,17 @@ mod timed {
     }
 
     impl Timed {
+        /// Whether `bench_steps` counts the call: it counts what is done, and not what is answered.
+        fn counts(&self) -> bool {
+            !matches!(self, Self::Covers { .. })
+        }
+
         /// The call's number, then ten arguments (include/machine.h).
         fn words(&self) -> [u64; CALL_WORDS] {
             let (number, arguments) = match *self {
                 Self::Remove { p, addr } => (7, [p, addr, 0, 0]),
                 Self::Carve { p, start, end } => (9, [p, start, end, 0]),
+                Self::Covers { p, start, end } => (10, [p, start, end, 0]),
                 Self::Fault { p, addr } => (13, [p, addr, 1, 0]),
                 Self::Populate { p, addr, len } => (14, [p, addr, len, 1]),
                 Self::CloneRegion { p, addr, target } => (16, [p, addr, target, 0]),
@@ -382,6 +418,9 @@ mod timed {
                 }
                 Self::Carve { p, start, end } => {
                     black_box(of(p).regions.carve(&(start..end)).expect("it splits"));
+                }
+                Self::Covers { p, start, end } => {
+                    assert!(of(p).regions.covers(&(start..end)));
                 }
                 Self::Fault { p, addr } => {
                     let (process, region) = at(of(p), addr);

@@ -5,10 +5,11 @@ ghost use Prim.Native.Nat.{_-_, _^_};
 ghost use lib.Dec.{ltb};
 ghost use Rattle.model.specs.Layout.{machine};
 ghost use Rattle.model.specs.Machine.{mappedOf};
-ghost use Rattle.model.specs.Lookup.{regionFor};
+ghost use Rattle.model.specs.Lookup.{regionFor, covered};
 ghost use Rattle.model.specs.Paging.{mapping};
 ghost use Rattle.model.specs.Backing.{entryFor};
 ghost use Rattle.model.specs.Create.{one};
+ghost use Rattle.rows.specs.LentMemory.{SoundWords};
 ghost use Rattle.paging.specs.Place.{translateBy};
 ghost use Rattle.paging.specs.Mapper.{mappedPages, mapBy, unmapBy};
 ghost use Rattle.bench_c.specs.LookupsOn.{processThere, rowThere, answerIf, rowOr, frameOr, mappedOne, Left};
@@ -21,6 +22,7 @@ use lookup::search::entry_for;
 use model::Found;
 use model::Mapping;
 use model::Translated;
+use regions::cover::covers;
 
 // The slot of the attached region at an address, 64 where there is none.
 #[no_mangle]
@@ -37,6 +39,23 @@ pub extern "C" fn tables_region_for(words: &[u64], process: usize, addr: u64) ->
         return 64;
     };
     slot
+}
+
+// Whether a process's regions cover a range: 1, or 0.
+#[no_mangle]
+pub extern "C" fn tables_covers(words: &[u64], process: usize, start: u64, end: u64) -> u64
+    ensures { λ r. ⌜ (SoundWords (now (words .entry)) → r ≡ answerIf (processThere (now (words .entry)) process) (one (covered (machine (now (words .entry))) process start end)) 0) ⌝ }
+{
+    if words.len() != 11844 {
+        return 0;
+    }
+    if process >= 8 {
+        return 0;
+    }
+    if covers(words, process, start, end) {
+        return 1;
+    }
+    0
 }
 
 // The page entry of a page of the region in a row, 512 where there is none.

@@ -16,7 +16,7 @@ use Rattle.model.specs.Lookup.{covered, startsOf}
 use Rattle.model.specs.Answers.{firstOf, listing, notListed}
 use Rattle.model.specs.Refusals.{processRefusals, regionRefusals, slotAt}
 use Rattle.model.specs.Calls.{region, covers, regions}
-use Rattle.rows.specs.LentMemory.{stateOf, wordsAlone, OnSound}
+use Rattle.rows.specs.LentMemory.{SoundWords, stateOf, wordsAlone, OnSound}
 use Rattle.rows.specs.GuardedLaws.{refused, granted}
 
 module _ (w : List ℕ) (p a : ℕ) where
@@ -36,9 +36,9 @@ module _ (w : List ℕ) (p : ℕ) where
     unfolding covers processRefusals
     covers-refused r q f b s = sym (ap (λ x. x .answer) (refused (stateOf w f b) covering.No _ _ s r q))
 
-    pub covers-answered : Yes ≡ firstOf (processRefusals (wordsAlone w) p) → (c : Bool) → c ≡ covered (machine w) p a e → OnSound (λ s. covers s p a e) w (cond c covering.Covered covering.Uncovered)
+    pub covers-answered : Yes ≡ firstOf (processRefusals (wordsAlone w) p) → (c : Bool) → (SoundWords w → c ≡ covered (machine w) p a e) → OnSound (λ s. covers s p a e) w (cond c covering.Covered covering.Uncovered)
     unfolding covers processRefusals
-    covers-answered q c k f b s = ap (λ (x : Bool). cond x covering.Covered covering.Uncovered) k ∙ sym (ap (λ x. x .answer) (granted (stateOf w f b) covering.No _ _ s q))
+    covers-answered q c k f b s = ap (λ (x : Bool). cond x covering.Covered covering.Uncovered) (k (record { frames = f; files = b; sound = s })) ∙ sym (ap (λ x. x .answer) (granted (stateOf w f b) covering.No _ _ s q))
 
   pub regions-refused : (r : Refusal) → No r ≡ firstOf (processRefusals (wordsAlone w) p) → (zeros : List ℕ) → zeros ≡ replicate 64 0 → OnSound (λ s. regions s p) w (record { done = No r; count = 0; starts = zeros })
   unfolding regions processRefusals notListed

@@ -1,16 +1,18 @@
-// Whether a process's attached regions cover a range.
+// Whether a process's attached regions cover a range: what they hold of it is added up, with no copy of their spans.
 ghost use mathlib.Core.Path.{_≡_};
-ghost use Prim.Native.Nat.{_<_};
+ghost use Prim.Native.Nat.{_-_, _<_};
 ghost use lib.ListN.{length};
 ghost use Rattle.model.specs.Layout.{wordCount, machine};
+ghost use Rattle.model.specs.Machine.{regionAt};
 ghost use Rattle.model.specs.Lookup.{covered};
-ghost use Rattle.regions.specs.Cover.{endWithin, coveredUntil};
-use crate::slot::region_in;
-use address::VirtAddr;
+ghost use Rattle.rows.specs.LentMemory.{SoundWords};
+ghost use Rattle.regions.specs.Cover.{endWithin, startWithin, sharedLen};
 use lookup::attached::attached_count;
-use lookup::attached::region_for;
-use model::Found;
+use model::REGIONS;
 use model::Region;
+use model::SLOTS;
+use rows::slots::order_at;
+use rows::slots::region_at;
 
 // The end of a region, or the range's end where that is lower: the region's may be no u64.
 fn end_within(region: Region, end: u64) -> u64
@@ -25,38 +27,66 @@ fn end_within(region: Region, end: u64) -> u64
     end
 }
 
-// How far the region at an address covers a range; the address itself where there is no region.
-fn covered_until(words: &[u64], process: usize, addr: u64, end: u64) -> u64
-    requires { ⌜ length (now words) ≡ wordCount ⌝ }
-    requires { ⌜ process < 8 ⌝ }
-    ensures { λ r. ⌜ r ≡ coveredUntil (machine (now (words .entry))) process addr end ⌝ }
+// The start of a region, or the range's start where that is higher.
+fn start_within(region: Region, start: u64) -> u64
+    ensures { λ r. ⌜ r ≡ startWithin region start ⌝ }
 {
-    let Found::At(slot) = region_for(words, process, VirtAddr(addr)) else {
-        return addr;
-    };
-    let region = region_in(words, process, slot);
-    end_within(region, end)
+    if region.start.0 < start {
+        return start;
+    }
+    region.start.0
 }
 
-// Whether every address from start up to end lies in an attached region. Each region is passed once.
+// a - b, and 0 where b is more.
+fn less(a: u64, b: u64) -> u64
+    ensures { λ r. ⌜ r ≡ a - b ⌝ }
+{
+    if a < b {
+        return 0;
+    }
+    a - b
+}
+
+// How many addresses from start up to end lie in a region.
+fn shared_len(region: Region, start: u64, end: u64) -> u64
+    ensures { λ r. ⌜ r ≡ sharedLen region start end ⌝ }
+{
+    let last = end_within(region, end);
+    let first = start_within(region, start);
+    less(last, first)
+}
+
+// How many addresses from start up to end lie in the region in a process's slot; past the last row there is none. Its row is read
+// here, so that of its words only start and size are loaded.
+fn slot_len(words: &[u64], process: usize, slot: usize, start: u64, end: u64) -> u64
+    requires { ⌜ length (now words) ≡ wordCount ⌝ }
+    requires { ⌜ process < 8 ⌝ }
+    ensures { λ r. ⌜ r ≡ sharedLen (regionAt (machine (now (words .entry))) process slot) start end ⌝ }
+{
+    if slot < REGIONS - process * SLOTS {
+        let region = region_at(words, process * SLOTS + slot);
+        return shared_len(region, start, end);
+    }
+    0
+}
+
+// Whether every address from start up to end lies in an attached region. The regions of a sound machine are apart, so each
+// address that is held is held by one of them.
 pub fn covers(words: &[u64], process: usize, start: u64, end: u64) -> bool
     requires { ⌜ length (now words) ≡ wordCount ⌝ }
     requires { ⌜ process < 8 ⌝ }
-    ensures { λ r. ⌜ r ≡ covered (machine (now (words .entry))) process start end ⌝ }
+    ensures { λ r. ⌜ (SoundWords (now (words .entry)) → r ≡ covered (machine (now (words .entry))) process start end) ⌝ }
 {
+    if end <= start {
+        return true;
+    }
     let n = attached_count(words, process);
-    let mut until = start;
+    let mut left = end - start;
     let mut i = 0;
     while i < n {
-        if end <= until {
-            return true;
-        }
-        let next = covered_until(words, process, until, end);
-        if next == until {
-            return false;
-        }
-        until = next;
+        let slot = order_at(words, process * SLOTS + i);
+        left = less(left, slot_len(words, process, slot as usize, start, end));
         i += 1;
     }
-    end <= until
+    left == 0
 }

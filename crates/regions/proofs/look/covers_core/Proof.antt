@@ -23,10 +23,10 @@ covers-requires : tie.Need-covers-requires
 covers-requires c κs = let small = process-yes _ _ (sym (c .enum-told .given .1) ∙ c .before .before .process-refusal .ensures) in search needs
 
 returns-2 : tie.Need-returns-2
-returns-2 c = covers-answered _ _ _ _ (sym (c .before .before .enum-told .given .1) ∙ c .before .before .before .before .process-refusal .ensures) true (sym (c .if1 .taken) ∙ c .before .covers .ensures)
+returns-2 c = covers-answered _ _ _ _ (sym (c .before .before .enum-told .given .1) ∙ c .before .before .before .before .process-refusal .ensures) true (λ sound. sym (c .if1 .taken) ∙ c .before .covers .ensures sound)
 
 returns-3 : tie.Need-returns-3
-returns-3 c = covers-answered _ _ _ _ (sym (c .before .before .enum-told .given .1) ∙ c .before .before .before .before .process-refusal .ensures) false (sym (c .if1 .left) ∙ c .before .covers .ensures)
+returns-3 c = covers-answered _ _ _ _ (sym (c .before .before .enum-told .given .1) ∙ c .before .before .before .before .process-refusal .ensures) false (λ sound. sym (c .if1 .left) ∙ c .before .covers .ensures sound)
 
 pub covers-core-spec : {M : Type 1} → statement M
 covers-core-spec =
