@@ -1,6 +1,6 @@
 -- Laws: the choice of a fault's way, case by case, and what is read of a sound machine.
 use mathlib.Core.Path.{_≡_, refl, ap, sym, _∙_}
-use mathlib.Core.Bool.{Bool, true, false, not, cond}
+use mathlib.Core.Bool.{Bool, true, false, not, _&&_, _||_, cond}
 use mathlib.Core.List.{List}
 use Prim.Native.Nat.{ℕ, _<_, _≤_}
 use native.Mathlib.Omega.{arith}
@@ -30,7 +30,7 @@ use Rattle.rows.specs.LentMemory.{stateOf, SoundWords}
 use Rattle.backing.specs.BackingLaws.{sound-ready, used-inside}
 use Rattle.paging.specs.Place.{translateBy}
 use Rattle.paging.specs.MapperLaws.{well-paged, translate-law}
-use Rattle.fault_way.specs.Way.{copiedWay}
+use Rattle.fault_way.specs.Way.{copiedWay, asksBacking}
 
 pub copied-one : (f : PhysFrame) (n : ℕ) → n ≡ 1 → Restore ≡ copiedWay f n
 copied-one f n e = rw (eq-eqb n 1 e) refl
@@ -119,6 +119,53 @@ module _ (r : Region) (t : Translated) (b : Backed) (w x : Bool) (e : x ≡ isUs
 
   pub private-mapped : not x ≡ false → (m : Mapping) → t ≡ Mapped m → (c : Bool) → c ≡ wellMapped t w → c ≡ false → (y : Way) → y ≡ mappedWay r b → y ≡ privateWay r t b w
   private-mapped a m g c h k y z = private-open a y (z ∙ sym (ap (λ (z : Translated). translatedWay r z b w) g ∙ rw (ap (λ (z : Translated). wellMapped z w) (sym g) ∙ sym h ∙ k) refl))
+
+-- ---- whether the way hangs on what backs the page
+
+module _ (r : Region) (t : Translated) (w : Bool) where
+  pub asks-refused : (u : Bool) → u ≡ isUser (r .flags .0) → not u ≡ true → false ≡ asksBacking r t w
+  asks-refused u e a = rw (sym e ∙ not-true u a) refl
+
+  module _ (u : Bool) (user : u ≡ isUser (r .flags .0)) (may : not u ≡ false) (k : Bool) (well : k ≡ wellMapped t w) where
+    pub asks-well : k ≡ true → false ≡ asksBacking r t w
+    asks-well a = rw (sym user ∙ not-false u may, sym well ∙ a) refl
+
+    pub asks-read : k ≡ false → not w ≡ true → true ≡ asksBacking r t w
+    asks-read a b = rw (sym user ∙ not-false u may, sym well ∙ a, b) refl
+
+    pub asks-write : k ≡ false → not w ≡ false → (x : Bool) → x ≡ isWritable (r .flags .0) → x ≡ asksBacking r t w
+    asks-write a b x e = e ∙ rw (sym user ∙ not-false u may, sym well ∙ a, b) refl
+
+  -- where it does not, anything may stand for what backs it
+  pub way-alike : (c : Bool) → c ≡ asksBacking r t w → not c ≡ true → (b : Backed) → privateWay r t Unbacked w ≡ privateWay r t b w
+  unfolding privateWay
+  way-alike c e a b = go (isUser (r .flags .0)) (isWritable (r .flags .0)) refl w refl t refl (sym e ∙ not-true c a)
+    where
+      mapped : (v : Bool) → isWritable (r .flags .0) ≡ v → v ≡ false → (b : Backed) → mappedWay r b ≡ Refuse NotWritable
+      mapped v f g (ByEntry i h n) = rw (f ∙ g) refl
+      mapped v f g (ByRange h n) = rw (f ∙ g) refl
+      mapped v f g Unbacked = rw (f ∙ g) refl
+
+      bare : (v : Bool) → isWritable (r .flags .0) ≡ v → v ≡ false → (b : Backed) → unmappedWay r b true ≡ Refuse NotWritable
+      bare v f g (ByEntry i h n) = rw (f ∙ g) refl
+      bare v f g (ByRange h n) = rw (f ∙ g) refl
+      bare v f g Unbacked = rw (f ∙ g) refl
+
+      over : (k : Bool) (v : Bool) → isWritable (r .flags .0) ≡ v → (y : Bool) → (not k && (not y || v)) ≡ false → cond k Already (mappedWay r Unbacked) ≡ cond k Already (mappedWay r b)
+      over true v f y z = refl
+      over false true f true z = absurd (mathlib.Core.Bool.true≢false z)
+      over false true f false z = absurd (mathlib.Core.Bool.true≢false z)
+      over false false f true z = mapped false f refl Unbacked ∙ sym (mapped false f refl b)
+      over false false f false z = absurd (mathlib.Core.Bool.true≢false z)
+
+      go : (u v : Bool) → isWritable (r .flags .0) ≡ v → (y : Bool) → w ≡ y → (x : Translated) → t ≡ x → (u && (not (wellMapped x y) && (not y || v))) ≡ false
+          → cond u (translatedWay r x Unbacked y) (Refuse NotAccessible) ≡ cond u (translatedWay r x b y) (Refuse NotAccessible)
+      go false v f y g x h z = refl
+      go true v f y g (Mapped x) h z = over (wellMapped (Mapped x) y) v f y z
+      go true true f true g NotMapped h z = absurd (mathlib.Core.Bool.true≢false z)
+      go true true f false g NotMapped h z = absurd (mathlib.Core.Bool.true≢false z)
+      go true false f true g NotMapped h z = bare false f refl Unbacked ∙ sym (bare false f refl b)
+      go true false f false g NotMapped h z = absurd (mathlib.Core.Bool.true≢false z)
 
 module _ (t : Translated) (b : Backed) where
   pub shared-mapped : (m : Mapping) → t ≡ Mapped m → Already ≡ sharedWay t b

@@ -5,7 +5,7 @@ ghost use lib.ListN.{length};
 ghost use Rattle.model.specs.Layout.{wordCount, machine};
 ghost use Rattle.model.specs.Paging.{wellMapped};
 ghost use Rattle.model.specs.Fault.{backedWay, mappedWay, unbackedWay, unmappedWay, privateWay, sharedWay, faultWay};
-ghost use Rattle.fault_way.specs.Way.{copiedWay};
+ghost use Rattle.fault_way.specs.Way.{copiedWay, asksBacking};
 ghost use Rattle.rows.specs.LentMemory.{SoundWords};
 use address::Page;
 use address::PageTableFlags;
@@ -134,6 +134,23 @@ fn private_way(region: Region, page: Translated, backed: Backed, write: bool) ->
     mapped_way(region, backed)
 }
 
+// Whether the way hangs on what backs the page, which takes a look through all entries: not where the region refuses, nor where
+// the page is mapped well enough.
+fn asks_backing(region: Region, page: Translated, write: bool) -> bool
+    ensures { λ r. ⌜ r ≡ asksBacking region page write ⌝ }
+{
+    if !region.flags.is_user_accessible() {
+        return false;
+    }
+    if well_mapped(page, write) {
+        return false;
+    }
+    if !write {
+        return true;
+    }
+    region.flags.is_writable()
+}
+
 // A page of a Shared region.
 fn shared_way(page: Translated, backed: Backed) -> Way
     ensures { λ r. ⌜ r ≡ sharedWay page backed ⌝ }
@@ -170,9 +187,13 @@ pub fn fault_way(words: &[u64], process: usize, slot: usize, page: Page, write: 
 {
     let region = region_in(words, process, slot);
     let mapped = translate(words, process, page);
-    let backed = backing_of(words, process, slot, page);
     if region.kind == SHARED {
+        let backed = backing_of(words, process, slot, page);
         return shared_way(mapped, backed);
     }
+    if !asks_backing(region, mapped, write) {
+        return private_way(region, mapped, Backed::Unbacked, write);
+    }
+    let backed = backing_of(words, process, slot, page);
     private_way(region, mapped, backed, write)
 }
