@@ -1,4 +1,6 @@
 // Loads and stores of one byte.
+#![tactic(auto)]
+
 ghost use Rattle.std.specs.Prelude.{◌≡◌, length};
 ghost use Rattle.model.specs.Layout.{word_count, machine};
 ghost use Rattle.model.specs.Answers.{first_of};
@@ -16,7 +18,7 @@ use model::{Done, Loaded, Translated};
 use paging::search::translate;
 
 // The byte that a process may use at an address, by its place among the frames, or why there is none.
-#[derive(Drop)]
+#[derive(Clone, Copy)]
 pub enum Access {
     At(PhysAddr),
     No(Refusal),

@@ -5,11 +5,11 @@ ghost use Rattle.address.specs.Flags.{Contains, Without, checked_flags, read_onl
 ghost use Rattle.laws.specs.Tells.{Tells};
 
 // Flag bits of a page table entry.
-#[derive(Drop)]
+#[derive(Clone, Copy)]
 pub struct PageTableFlags(pub u64);
 
 // What a number is as flags.
-#[derive(Drop)]
+#[derive(Clone, Copy)]
 pub enum CheckedFlags {
     Good(PageTableFlags),
     Bad,

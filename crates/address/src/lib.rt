@@ -1,4 +1,6 @@
 // Addresses, pages and frames, kept apart by type and converted by named functions alone, under the names of the x86_64 crate.
+#![tactic(auto)]
+
 ghost use Rattle.std.specs.Prelude.{◌≡◌, ◌+◌, ◌-◌, ◌*◌, ◌/◌, ◌%◌, ◌<◌};
 ghost use Rattle.address.specs.Canonical.{Canonical, canonical, user, checked_addr};
 ghost use Rattle.address.specs.Pages.{page_of, start_of, page_offset, page_from, aligned};
@@ -18,23 +20,23 @@ pub const USER_END: u64 = 0x8000_0000_0000;
 pub const PAGE_COUNT: u64 = 0x10_0000_0000_0000;
 
 // A byte address, as a process or the kernel names it.
-#[derive(Drop)]
+#[derive(Clone, Copy)]
 pub struct VirtAddr(pub u64);
 
 // The number of a page of 4,096 bytes.
-#[derive(Drop)]
+#[derive(Clone, Copy)]
 pub struct Page(pub u64);
 
 // A byte's place among the frames.
-#[derive(Drop)]
+#[derive(Clone, Copy)]
 pub struct PhysAddr(pub u64);
 
 // The number of a frame of 4,096 bytes.
-#[derive(Drop)]
+#[derive(Clone, Copy)]
 pub struct PhysFrame(pub u64);
 
 // What a number is as an address.
-#[derive(Drop)]
+#[derive(Clone, Copy)]
 pub enum CheckedAddr {
     Good(VirtAddr),
     NotCanonical,

@@ -6,7 +6,7 @@ use text::{Row, put, put_decimal, put_hex_word, put_row};
 
 // What a call answers, the machine's state aside. A number is an address or a length, in hexadecimal, or a count. What is listed stands behind
 // a list's own answer.
-#[derive(Drop)]
+#[derive(Clone, Copy)]
 pub enum Answer {
     Done,
     Start(u64, u64),

@@ -1,9 +1,11 @@
 // The refusals of the rules (RULES E), one name for each number.
+#![tactic(auto)]
+
 ghost use Rattle.std.specs.Prelude.{◌≡◌};
 ghost use Rattle.answers.specs.Number.{number_of};
 
 // Why a call refused. RULES E1 to E22, in their order.
-#[derive(Drop)]
+#[derive(Clone, Copy)]
 pub enum Refusal {
     BadTable,
     NoProcess,

@@ -4,13 +4,13 @@ ghost use Rattle.model.specs.Layout.{word_count, machine};
 ghost use Rattle.backing.specs.Pass.{cover};
 ghost use Rattle.backing.specs.BackingSteps.{framed, lowest_free, found_frame, lowest_fit};
 
-use crate::core::fewer;
+use crate::by_value::fewer;
 use address::PhysFrame;
 use model::FRAMES;
 use rows::backings::{backing_at, frame_count};
 
 // A frame that was looked for.
-#[derive(Drop)]
+#[derive(Clone, Copy)]
 pub enum FoundFrame {
     At(PhysFrame),
     Nothing,

@@ -4,7 +4,7 @@ ghost use Rattle.model.specs.Layout.{word_count, machine};
 ghost use Rattle.model.specs.Machine.{with_pool};
 ghost use Rattle.backing.specs.BackingSteps.{taken_from, given_back};
 
-use crate::core::{given_back, taken};
+use crate::by_value::{given_back, taken};
 use address::PhysFrame;
 use model::Pool;
 use rows::backings::put_pool;

@@ -5,7 +5,7 @@ ghost use Rattle.call_text.specs.Faults.{whole_fault};
 use model::Call;
 use text::Word;
 
-#[derive(Drop)]
+#[derive(Clone, Copy)]
 pub enum Asked {
     // A blank line or a comment.
     Nothing,
@@ -21,7 +21,7 @@ pub enum Asked {
 }
 
 // A call of the lone manager.
-#[derive(Drop)]
+#[derive(Clone, Copy)]
 pub enum LoneCall {
     Manager(u64, u64),
     Reserve(u64),
@@ -32,14 +32,14 @@ pub enum LoneCall {
 }
 
 // What is wrong with a line: the operand, by its letter, and the word of the line that it is about, where it is about one.
-#[derive(Drop)]
+#[derive(Clone, Copy)]
 pub struct Fault {
     pub why: Why,
     pub what: u8,
     pub word: Word,
 }
 
-#[derive(Drop)]
+#[derive(Clone, Copy)]
 pub enum Why {
     UnknownCall,
     Missing,

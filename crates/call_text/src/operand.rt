@@ -8,7 +8,7 @@ use crate::word_list::place_of;
 use text::{Number, Word, next_word};
 
 // One value or two, and the place behind the operand.
-#[derive(Drop)]
+#[derive(Clone, Copy)]
 pub enum Read {
     One(u64, usize),
     Two(u64, u64, usize),

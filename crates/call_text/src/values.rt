@@ -7,7 +7,7 @@ use crate::operand::{Read, read_operand};
 use crate::word_list::word_at;
 
 // The first `count` of `list` are values; `next` is the place behind them. Where it is bad, `fault` says why, and nothing else counts.
-#[derive(Drop)]
+#[derive(Clone, Copy)]
 pub struct Values {
     pub list: [u64; 10],
     pub count: usize,

@@ -1,4 +1,5 @@
 // The numbering of the machine's calls: a call out of its number and its arguments.
+#![tactic(auto)]
 ghost use Rattle.std.specs.Prelude.{◌≡◌, ◌&&◌, ◌≤◌, ◌<◌};
 ghost use Rattle.call_words.specs.CallOf.{call_of, private_of, file_of, place_of, population_of, fork_of, flagb, count_of};
 
@@ -6,7 +7,7 @@ use address::VirtAddr;
 use model::{Call, ForkPolicy, Place, Population};
 
 // The call of a number, if it has one with these arguments.
-#[derive(Drop)]
+#[derive(Clone, Copy)]
 pub enum Numbered {
     Is(Call),
     None,

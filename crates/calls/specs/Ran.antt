@@ -1,5 +1,5 @@
 -- Any call, by one function: what it answers and leaves of the lent memory, the memory for starts among it (RULES D1, E1, O1, O2).
-use Rattle.core.specs.Prelude.{◌≡◌, ℕ, Bool, false, cond, List, length, replicate, ◌≢◌}
+use Rattle.std.specs.Prelude.{◌≡◌, ℕ, Bool, false, cond, List, length, replicate, ◌≢◌}
 use Rattle.answers.specs.declared.Refusal.{Refusal}
 use Rattle.answers.specs.declared.Refusal.TheVariants.{BadTable}
 use Rattle.model.specs.declared.Answer.{Answer}

@@ -1,5 +1,5 @@
 -- From the soundness test and one step to any call on any lent memory.
-use Rattle.core.specs.Prelude.{◌≡◌, ℕ, Bool, true, false, List, length, ◌≢◌}
+use Rattle.std.specs.Prelude.{◌≡◌, ℕ, Bool, true, false, List, length, ◌≢◌}
 use Rattle.std.proofs.Math.Path.{refl, ap, sym}
 use Rattle.std.proofs.Common.{◌∙◌, true≢false}
 use Rattle.answers.specs.declared.Refusal.{Refusal}

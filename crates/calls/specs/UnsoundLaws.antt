@@ -1,5 +1,5 @@
 -- Every call answers BadTable on a machine that breaks R1 to R6, and leaves it.
-use Rattle.core.specs.Prelude.{◌≡◌, ℕ, Bool, false}
+use Rattle.std.specs.Prelude.{◌≡◌, ℕ, Bool, false}
 use Rattle.answers.specs.declared.Refusal.TheVariants.{BadTable}
 use Rattle.model.specs.declared.Place.{Place}
 use Rattle.model.specs.declared.Region.{Region}

@@ -1,5 +1,5 @@
 // Any call of the machine, by one function.
-ghost use Rattle.core.specs.Prelude.{◌≡◌, length};
+ghost use Rattle.std.specs.Prelude.{◌≡◌, length};
 ghost use Rattle.answers.specs.declared.Refusal.TheVariants.{BadTable};
 ghost use Rattle.model.specs.Meant as meant;
 ghost use Rattle.calls.specs.Ran.{Ran, no_starts, starts_refused, none_for};

@@ -1,5 +1,5 @@
 // Regions removed, pinned, unpinned and protected.
-ghost use Rattle.core.specs.Prelude.{◌≡◌};
+ghost use Rattle.std.specs.Prelude.{◌≡◌};
 ghost use Rattle.model.specs.declared.Done.TheVariants as done;
 ghost use Rattle.model.specs.Calls.{remove, clear, pin, unpin, protect};
 ghost use Rattle.calls.specs.Answered.{answer_on, Leaves};
@@ -9,7 +9,7 @@ use answers::Refusal;
 use model::Done;
 use pins::{pin_core, unpin_core};
 use protect::protect_core;
-use remove::core::{clear_core, remove_core};
+use remove::cores::{clear_core, remove_core};
 use soundness::is_sound;
 
 // Removes the region at an address; a pinned one stays, detached, until its last unpin.

@@ -1,5 +1,5 @@
 // Clones: of a region, and of a process.
-ghost use Rattle.core.specs.Prelude.{◌≡◌};
+ghost use Rattle.std.specs.Prelude.{◌≡◌};
 ghost use Rattle.model.specs.declared.Done.TheVariants as done;
 ghost use Rattle.model.specs.Calls.{clone_region, clone};
 ghost use Rattle.calls.specs.Answered.{answer_on, Leaves};

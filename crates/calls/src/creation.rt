@@ -1,5 +1,5 @@
 // Creation of regions: private, lazy or eager; backed by a file; shared.
-ghost use Rattle.core.specs.Prelude.{◌≡◌};
+ghost use Rattle.std.specs.Prelude.{◌≡◌};
 ghost use Rattle.model.specs.declared.Placed.TheVariants as placed;
 ghost use Rattle.model.specs.Create.{is_copy, is_eager};
 ghost use Rattle.model.specs.Calls.{create_private, create_file, create_shared};

@@ -1,5 +1,5 @@
 // Loads and stores of one byte.
-ghost use Rattle.core.specs.Prelude.{◌≡◌};
+ghost use Rattle.std.specs.Prelude.{◌≡◌};
 ghost use Rattle.model.specs.declared.Done.TheVariants as done;
 ghost use Rattle.model.specs.declared.Loaded.TheVariants as loaded;
 ghost use Rattle.model.specs.Calls.{load, store};

@@ -1,5 +1,5 @@
 // Faults over many pages: a range populated, or every region that is copied eagerly.
-ghost use Rattle.core.specs.Prelude.{◌≡◌};
+ghost use Rattle.std.specs.Prelude.{◌≡◌};
 ghost use Rattle.model.specs.declared.Done.TheVariants as done;
 ghost use Rattle.model.specs.Calls.{populate, eager};
 ghost use Rattle.calls.specs.Answered.{answer_on, Leaves};

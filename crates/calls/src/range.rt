@@ -1,11 +1,11 @@
 // Carve: the regions that cross a bound of a range are split there.
-ghost use Rattle.core.specs.Prelude.{◌≡◌};
+ghost use Rattle.std.specs.Prelude.{◌≡◌};
 ghost use Rattle.model.specs.declared.Answer.TheVariants as answer;
 ghost use Rattle.model.specs.declared.Call.TheVariants as call;
 ghost use Rattle.calls.specs.Ran.{Ran};
 
 use crate::any_call::{none, put_none};
-use carve::core::carve_core;
+use carve::cores::carve_core;
 use model::{Counted, SLOTS};
 use soundness::is_sound;
 

@@ -1,4 +1,5 @@
 // The core of region cloning, on a machine that has been tested sound.
+#![tactic(auto)]
 ghost use Rattle.std.specs.Prelude.{◌≡◌, ◌≢◌, ◌&&◌, ◌<◌, ◌≤◌, length, ltb};
 ghost use Rattle.model.specs.Layout.{word_count, machine};
 ghost use Rattle.model.specs.Machine.{region_at};
@@ -24,7 +25,7 @@ use rows::backings::pool;
 use rows::sizes::segment_len;
 
 // The free slot that a clone goes into, or why there is no clone.
-#[derive(Drop)]
+#[derive(Clone, Copy)]
 pub enum Way {
     Go(usize),
     No(Refusal),

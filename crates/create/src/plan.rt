@@ -17,7 +17,7 @@ use reserve::lowest::{FoundSpot, spot};
 use rows::sizes::{pages_for, segment_len};
 
 // The start of a new region, its slot, and the first frame of its range, if it is to have one.
-#[derive(Drop)]
+#[derive(Clone, Copy)]
 pub struct Plan {
     pub start: VirtAddr,
     pub slot: usize,
@@ -25,7 +25,7 @@ pub struct Plan {
 }
 
 // A plan, or the refusal.
-#[derive(Drop)]
+#[derive(Clone, Copy)]
 pub enum Planned {
     Go(Plan),
     No(Refusal),

@@ -1,5 +1,5 @@
 -- Request 2026-01: which way the Rust goes at a fault, and the one case in which a fault goes another way.
-use Rattle.std.specs.Prelude.{Bool, true, false, not, ◌&&◌, cond, ℕ}
+use Rattle.std.specs.Prelude.{Bool, false, not, ◌&&◌, cond, ℕ}
 use Rattle.answers.specs.declared.Refusal.TheVariants.{NotAccessible}
 use Rattle.model.specs.declared.Region.{Region}
 use Rattle.model.specs.declared.Translated.{Translated}

@@ -1,7 +1,7 @@
 -- Laws of request 2026-01: a doomed write is refused at once and nothing changes, where the Rust spends a frame; every other fault is the Rust's.
 use Rattle.std.specs.Prelude.{◌≡◌, refl, Bool, true, false, not, ◌&&◌, ℕ}
 use Rattle.std.proofs.Math.Path.{ap}
-use Rattle.std.proofs.Common.{sym, ◌∙◌, true≢false}
+use Rattle.std.proofs.Common.{◌∙◌, true≢false}
 use Rattle.std.proofs.Math.Bool.{cond}
 use Rattle.std.proofs.lemmas.Bool.{false≢true}
 use Rattle.answers.specs.declared.Refusal.TheVariants.{NotAccessible, NotWritable}
@@ -17,7 +17,7 @@ use Rattle.model.specs.Answers.{Try, fine, first_of, unless, refuse}
 use Rattle.model.specs.Lookup.{is_shared}
 use Rattle.model.specs.Paging.{is_writable, is_user, translate, well_mapped}
 use Rattle.model.specs.Backing.{backing}
-use Rattle.model.specs.Fault.{unbacked_way, translated_way, private_way, shared_way, fault_way, way_refusals, go_way, handle_fault}
+use Rattle.model.specs.Fault.{translated_way, private_way, shared_way, fault_way, way_refusals, go_way, handle_fault}
 use Rattle.model.specs.Populate.{populate_page}
 use Rattle.laws.specs.BoolLaws.{both_true}
 use Rattle.differences.specs.DoomedWrite.{rust_translated, rust_way, rust_fault, doomed_page, doomed}

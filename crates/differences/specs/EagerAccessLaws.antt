@@ -1,14 +1,14 @@
 -- Laws of request 2026-02: eager populate gives neither NotWritable nor NotAccessible, on any machine; where regions agree it is the Rust's.
-use Rattle.std.specs.Prelude.{◌≡◌, ◌⊎◌, Bool, not, ◌&&◌, ◌||◌, eqb, ltb, leb, get_or}
+use Rattle.std.specs.Prelude.{◌≡◌, Bool, not, ◌&&◌, ◌||◌, eqb, ltb, get_or}
 use Rattle.std.proofs.Math.Path.{refl, ap, subst}
 use Rattle.std.proofs.Common.{sym, ◌∙◌, inl, inr, true≢false, arith, eqb-true, ltb-false, le-leb, lt-ltb}
 use Rattle.std.proofs.Math.Bool.{true, false, cond}
 use Rattle.std.proofs.lemmas.Bool.{false≢true}
 use mathlib.Core.List.{List, [], ◌∷◌}
-use Prim.Native.Nat.{ℕ, zero, suc, ◌+◌, ◌-◌, ◌*◌, ◌/◌, ◌%◌, ◌≤◌, ◌<◌, ◌^◌}
+use Prim.Native.Nat.{ℕ, zero, suc, ◌+◌, ◌/◌, ◌%◌, ◌≤◌}
 use Rattle.address.specs.declared.PhysFrame.{PhysFrame}
 use Rattle.answers.specs.declared.Refusal.{Refusal}
-use Rattle.answers.specs.declared.Refusal.TheVariants.{BadTable, NoProcess, NotAccessible, NotWritable, OutOfMemory, ReadFailed, MapFailed, TableFull}
+use Rattle.answers.specs.declared.Refusal.TheVariants.{BadTable, NoProcess}
 use Rattle.answers.specs.Number.{number_of}
 use Rattle.model.specs.declared.Region.{Region}
 use Rattle.model.specs.declared.Found.{Found}
@@ -26,7 +26,7 @@ use Rattle.model.specs.Answers.{Try, leaving, fine, first_of, unless, and_then}
 use Rattle.model.specs.Lookup.{contains, region_for, is_shared, is_private, is_open}
 use Rattle.model.specs.Paging.{page_start, translate, well_mapped, is_user, is_writable}
 use Rattle.model.specs.Backing.{backing}
-use Rattle.model.specs.Fault.{mapped_way, backed_way, unbacked_way, translated_way, private_way, shared_way, fault_way, way_refusals, go_way, handle_fault, no_frame, no_room, no_entry_left, read_fails, is_mapped, by_entry}
+use Rattle.model.specs.Fault.{mapped_way, backed_way, unbacked_way, translated_way, private_way, shared_way, fault_way, way_refusals, go_way, handle_fault}
 use Rattle.model.specs.Populate.{next_start, populate_page, visit, visits, nothing_to_do, last_address, core_populate, eager_region, eager_access, eagerly, eagerly_each, core_populate_eager_copies}
 use Rattle.model.specs.Refusals.{process_refusals}
 use Rattle.model.specs.Calls as calls
@@ -38,7 +38,7 @@ use Rattle.laws.specs.In.{In}
 use Rattle.keeping.specs.OwingOfSound.{sound_owing}
 use Rattle.keeping.specs.PopulateKept.{page_kept, eagerly_kept}
 use Rattle.keeping.specs.RegionsStay.{page_stays, eagerly_stays}
-use Rattle.keeping.specs.GuardedKept.{Passed, passed}
+use Rattle.keeping.specs.GuardedKept.{passed}
 use Rattle.isolation.specs.ViewLaws.{home_region}
 use Rattle.differences.specs.EagerAccess.{is_eager_copy, rust_eagerly, rust_eagerly_each, rust_eager, agreed, Allowed}
 

@@ -1,1 +1,2 @@
 // Theorems alone: where a request departs from the Rust, and where not.
+#![tactic(auto)]

@@ -1,5 +1,5 @@
 -- What each way of a fault asks of the memory (RULES T1 to T11).
-use Rattle.std.specs.Prelude.{◌≡◌, Bool, true, List, ℕ, ◌+◌, ◌-◌, ◌*◌, ◌^◌, ◌≤◌, ◌<◌}
+use Rattle.std.specs.Prelude.{◌≡◌, Bool, true, List, ℕ, ◌+◌, ◌*◌, ◌^◌, ◌≤◌, ◌<◌}
 use Rattle.model.specs.declared.Done.TheVariants.{Yes}
 use Rattle.model.specs.declared.Way.{Way}
 use Rattle.model.specs.Layout.{machine}

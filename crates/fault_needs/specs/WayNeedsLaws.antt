@@ -1,5 +1,5 @@
 -- Laws: what a fault's way needs, test by test.
-use Rattle.std.specs.Prelude.{◌≡◌, Bool, false, ◌&&◌, not, cond, ℕ, ◌+◌, ◌-◌, get_or, eqb, ltb}
+use Rattle.std.specs.Prelude.{◌≡◌, Bool, false, ◌&&◌, not, cond, ℕ, ◌+◌, get_or, eqb, ltb}
 use Rattle.std.proofs.Math.Path.{refl, ap}
 use Rattle.std.proofs.Common.{sym, ◌∙◌, eq-eqb, ne_eqb}
 use Rattle.std.proofs.Math.Bool.{true}

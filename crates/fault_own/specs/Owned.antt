@@ -1,5 +1,5 @@
 -- A page's own frame: what it asks of the machine, and what it leaves (RULES T10).
-use Rattle.std.specs.Prelude.{◌≡◌, false, List, ℕ, ◌-◌, ◌<◌, length}
+use Rattle.std.specs.Prelude.{◌≡◌, false, List, ℕ, ◌<◌, length}
 use Rattle.model.specs.Layout.{machine}
 use Rattle.model.specs.Machine.{Machine, process_at, region_at, row_of, mapped_of, with_mapped}
 use Rattle.model.specs.Paging.{mapping, map_page, unmap_page}

@@ -1,4 +1,6 @@
 // A page of a region gets a frame of its own: the page is mapped to it, the frame claimed, the page's entry put. The Rust's map_and_fill.
+#![tactic(auto)]
+
 ghost use Rattle.std.specs.Prelude.{◌≡◌, true, ◌+◌, ◌*◌, ◌<◌, length};
 ghost use Rattle.model.specs.Layout.{word_count, machine};
 ghost use Rattle.model.specs.Lookup.{free_entry, is_found};

@@ -1,4 +1,6 @@
 // Which way a page fault goes, by a region, what its page is mapped to and what backs it: the Rust's handle_fault of the three kinds.
+#![tactic(auto)]
+
 ghost use Rattle.std.specs.Prelude.{◌≡◌, ◌<◌, length};
 ghost use Rattle.model.specs.Layout.{word_count, machine};
 ghost use Rattle.model.specs.Paging.{well_mapped};

@@ -72,6 +72,7 @@ copy_is l m from to i j here there h put =
 pad_is : (n : ℕ) (b : List ℕ) → length b ≤ n → b ++ zeros (n - length b) ≡ pad n 0 b
 unfolding pad
 pad_is zero [] h = refl
+pad_is zero (x ∷ b) h = elim h [ ]
 pad_is (suc n) [] h = simp unary_clauses (ap (λ (r : List ℕ). 0 ∷ r) (simp unary_clauses at (pad_is n [] (omega arith))))
 pad_is (suc n) (x ∷ b) h = simp unary_clauses (ap (λ (r : List ℕ). x ∷ r) (pad_is n b (le_of_suc-le-suc h)))
 

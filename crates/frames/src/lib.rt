@@ -1,4 +1,6 @@
 // The bytes of frames, in place: a frame of 4,096 bytes zeroed, copied, or filled from a file; one byte. No other byte changes.
+#![tactic(auto)]
+
 pub mod raw;
 
 ghost use Rattle.std.specs.Prelude.{◌≡◌, ◌+◌, ◌-◌, ◌*◌, ◌^◌, ◌≤◌, ◌<◌, length, get_or, set, take, drop, replicate};

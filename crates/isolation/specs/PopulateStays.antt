@@ -1,5 +1,5 @@
 -- Populate and eager populate change what no one sees: faults one after the other.
-use Rattle.std.specs.Prelude.{◌≡◌, Bool, ◌&&◌, cond, ltb}
+use Rattle.std.specs.Prelude.{◌≡◌, Bool, cond, ltb}
 use Rattle.std.proofs.Math.Path.{refl}
 use Rattle.std.proofs.Math.Bool.{true, false}
 use mathlib.Core.List.{List, [], ◌∷◌}

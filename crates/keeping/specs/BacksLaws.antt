@@ -20,7 +20,7 @@ use Rattle.laws.specs.TestLaws.{tells_eq}
 use Rattle.model.specs.Sound.{frame_by}
 use Rattle.model.specs.LookupLaws.{never_found, same_slot}
 use Rattle.model.specs.FoundRowLaws.{first_found, first_missing, first_only, first_nowhere}
-use Rattle.keeping.specs.Owing.{entry_at, ByEntry, ByRange, Backs}
+use Rattle.keeping.specs.Owing.{entry_at, Backs}
 
 -- whether an entry is of a row and a page
 abbrev pub entry_of : ℕ → ℕ → Entry → Bool

@@ -1,5 +1,5 @@
 -- Creation keeps a machine sound: a run claimed if it is needed, and the region added where there is room.
-use Rattle.std.specs.Prelude.{◌≡◌, ◌⊎◌, ◌≢◌, Bool, ◌&&◌, ◌||◌, not, cond, length, eqb, ltb, leb}
+use Rattle.std.specs.Prelude.{◌≡◌, ◌⊎◌, ◌≢◌, Bool, ◌&&◌, ◌||◌, not, cond, eqb, ltb, leb}
 use Rattle.std.proofs.Math.Path.{refl, ap, sym, subst}
 use Rattle.std.proofs.Common.{◌∙◌, true≢false, arith, eq-eqb, ne_eqb, ltb-false, leb-false}
 use Rattle.std.proofs.Math.Bool.{true, false}

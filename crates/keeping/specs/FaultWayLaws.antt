@@ -84,4 +84,6 @@ shared_right r e NotMapped Unbacked = tt
 
 pub way_right : (m : Machine) (p s page : ℕ) (w : Bool) → Right (region_at m p s) (translate (mapped_of m p) page) (backing m p s page) (fault_way m p s page w)
 unfolding fault_way
-way_right m p s page w = pick _ _ _ _ _ (is_shared (region_at m p s)) (λ e. shared_right _ (eqb-true _ 3 e) _ _) (λ e. private_right _ (eqb-false _ 3 e) _ _ w)
+way_right m p s page w =
+    pick (region_at m p s) (translate (mapped_of m p) page) (backing m p s page) _ _ (is_shared (region_at m p s))
+    (λ e. shared_right (region_at m p s) (eqb-true _ 3 e) _ _) (λ e. private_right (region_at m p s) (eqb-false _ 3 e) _ _ w)

@@ -1,5 +1,5 @@
 -- Populate and eager populate keep a machine sound: faults one after the other.
-use Rattle.std.specs.Prelude.{◌≡◌, refl, Bool, true, false, ◌&&◌, cond, List, [], ◌∷◌, ℕ, zero, suc, ◌+◌, ◌/◌, ltb}
+use Rattle.std.specs.Prelude.{◌≡◌, refl, Bool, true, false, cond, List, [], ◌∷◌, ℕ, zero, suc, ◌+◌, ◌/◌, ltb}
 use Rattle.model.specs.declared.Done.{Done}
 use Rattle.model.specs.declared.Done.TheVariants.{Yes, No}
 use Rattle.model.specs.declared.Found.{Found}

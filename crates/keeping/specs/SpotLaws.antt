@@ -17,12 +17,11 @@ use Rattle.segment_search.specs.declared.Found.TheVariants as sought_as
 use Rattle.segment_search.specs.declared.Search.{Search}
 use Rattle.segment_search.specs.declared.Search.TheVariants.{Free, Full}
 use Rattle.segment_search.specs.Search.{first_over, try, tries, search, ahead}
-use Rattle.segments.specs.Table.{insert, empty, arena}
+use Rattle.segments.specs.Table.{insert, empty}
 use Rattle.segments.specs.PositionLaws.{held_stored}
 use Rattle.segments.specs.Calls.{segment, is_in, overlapsb, lowest}
 use Rattle.model.specs.declared.Region.{Region}
 use Rattle.model.specs.declared.Place.{Place}
-use Rattle.model.specs.declared.Found.{Found}
 use Rattle.model.specs.declared.Found.TheVariants.{At, Nothing}
 use Rattle.model.specs.Machine.{Machine, process_at, region_at, row_of, no_region, user_end}
 use Rattle.model.specs.Lookup.{regions_of, is_used, pages_for, segment_len, segment_end}

@@ -24,7 +24,7 @@ pub fn process_refusal(words: &[u64], process: u64) -> Done
 }
 
 // A region that a call names by an address in it: its slot, or why there is none.
-#[derive(Drop)]
+#[derive(Clone, Copy)]
 pub enum Named {
     Slot(usize),
     No(Refusal),

@@ -1,5 +1,5 @@
 -- Page faults: which way a fault goes, what it needs, what it does. The Rust's handle_fault of the three kinds, map_and_fill.
-use Rattle.std.specs.Prelude.{Bool, true, false, ◌&&◌, not, cond, List, [], ◌∷◌, ℕ, ◌+◌, ◌-◌, min, length, get_or, set, take, drop, replicate, eqb, ltb, leb}
+use Rattle.std.specs.Prelude.{Bool, true, false, ◌&&◌, not, cond, List, [], ◌∷◌, ℕ, ◌+◌, ◌-◌, min, get_or, set, take, drop, replicate, eqb, ltb, leb}
 use Rattle.address.specs.declared.PhysFrame.{PhysFrame}
 use Rattle.address.specs.Flags.{read_only}
 use Rattle.answers.specs.declared.Refusal.{Refusal}

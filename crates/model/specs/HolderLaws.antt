@@ -1,5 +1,5 @@
 -- Holders counted row by row, and counted again once a row is another.
-use Rattle.std.specs.Prelude.{◌≡◌, refl, ◌≢◌, Bool, ◌&&◌, not, List, [], ◌∷◌, map, ℕ, zero, suc, ◌+◌, ◌<◌, ◌-◌, length, get_or, set, eqb}
+use Rattle.std.specs.Prelude.{◌≡◌, refl, ◌≢◌, Bool, ◌&&◌, not, List, [], ◌∷◌, map, ℕ, zero, suc, ◌+◌, ◌<◌, length, get_or, set, eqb}
 use Rattle.std.proofs.Common.{ap, ◌∙◌, le_of_suc-le-suc, not-suc-le-zero, eq-eqb, ne_eqb}
 use Rattle.std.proofs.Math.Bool.{true, false, cond}
 use native.Mathlib.Omega.{arith}

@@ -1,5 +1,5 @@
 -- The soundness test tells R6, and with it all rules.
-use Rattle.std.specs.Prelude.{◌≡◌, ◌⊎◌, ◌≢◌, true, not, ◌||◌, List, ℕ, ◌+◌, ◌-◌, ◌≤◌, ◌<◌, length, drop, eqb}
+use Rattle.std.specs.Prelude.{◌≡◌, ◌⊎◌, ◌≢◌, true, not, ◌||◌, List, ℕ, ◌+◌, ◌≤◌, ◌<◌, drop, eqb}
 use Rattle.std.proofs.Common.{arith}
 use Rattle.laws.specs.Tells.{Tells}
 use Rattle.laws.specs.TellsLaws.{tells_both}

@@ -1,5 +1,5 @@
 -- The soundness test tells R1 to R6: field by field, by the laws of Tests.
-use Rattle.std.specs.Prelude.{◌≡◌, refl, ◌≢◌, List, ℕ, ◌+◌, ◌-◌, ◌≤◌, ◌<◌, eqb, leb}
+use Rattle.std.specs.Prelude.{◌≡◌, refl, ◌≢◌, List, ℕ, ◌+◌, ◌≤◌, ◌<◌, eqb, leb}
 use Rattle.std.proofs.Common.{ap, sym, subst, arith}
 use mathlib.Core.Bool.{Bool, true, false, ◌||◌}
 use Rattle.laws.specs.Tells.{Tells}

@@ -1,4 +1,6 @@
 // The rows of the machine's tables, its calls and their answers. What they mean stands in specs/.
+#![tactic(auto)]
+
 ghost use Rattle.std.specs.Prelude.{◌≡◌};
 ghost use Rattle.model.specs.Create.{is_copy, is_eager};
 
@@ -41,7 +43,7 @@ pub const COPY_ON_WRITE: u64 = 0;
 pub const COPY_EAGER: u64 = 1;
 
 // One of the 8 processes: whether it is open, its arena, and how many rows of its lists are in use.
-#[derive(Drop)]
+#[derive(Clone, Copy)]
 pub struct Process {
     pub opened: u64,
     pub start: VirtAddr,
@@ -51,7 +53,7 @@ pub struct Process {
 }
 
 // A region slot, by the numbers above; ranged 1 where it has a range, whose backing's first frame is `range`.
-#[derive(Drop)]
+#[derive(Clone, Copy)]
 pub struct Region {
     pub kind: u64,
     pub start: VirtAddr,
@@ -68,7 +70,7 @@ pub struct Region {
 }
 
 // A page table entry: the flat model keeps a process's in page order.
-#[derive(Drop)]
+#[derive(Clone, Copy)]
 pub struct Mapping {
     pub page: Page,
     pub frame: PhysFrame,
@@ -76,7 +78,7 @@ pub struct Mapping {
 }
 
 // A page entry: the page of a region that has a frame of its own. Owner 0 free, else the region's row plus 1.
-#[derive(Drop)]
+#[derive(Clone, Copy)]
 pub struct Entry {
     pub owner: u64,
     pub page: Page,
@@ -84,21 +86,21 @@ pub struct Entry {
 }
 
 // The backing whose first frame is the row's number: its length in frames (0: none starts here) and its holders.
-#[derive(Drop)]
+#[derive(Clone, Copy)]
 pub struct Backing {
     pub len: u64,
     pub holders: u64,
 }
 
 // The frame pool: how many frames are free, and the lowest of them (the number of frames where none is).
-#[derive(Drop)]
+#[derive(Clone, Copy)]
 pub struct Pool {
     pub free: u64,
     pub next: PhysFrame,
 }
 
 // A file: whether it can be read (1) or not (0), and where its bytes stand among the lent ones.
-#[derive(Drop)]
+#[derive(Clone, Copy)]
 pub struct File {
     pub readable: u64,
     pub offset: u64,
@@ -106,14 +108,14 @@ pub struct File {
 }
 
 // Where creation puts a region.
-#[derive(Drop)]
+#[derive(Clone, Copy)]
 pub enum Place {
     At(VirtAddr),
     Lowest,
 }
 
 // What fork does with a region's pages: the Rust's ForkPolicy.
-#[derive(Drop)]
+#[derive(Clone, Copy)]
 pub enum ForkPolicy {
     CopyOnWrite,
     CopyEager,
@@ -132,7 +134,7 @@ impl ForkPolicy {
 }
 
 // When a Private region gets its frames: page by page, or all of them when it is created.
-#[derive(Drop)]
+#[derive(Clone, Copy)]
 pub enum Population {
     Lazy,
     Eager,
@@ -151,21 +153,21 @@ impl Population {
 }
 
 // A row or slot that was looked for.
-#[derive(Drop)]
+#[derive(Clone, Copy)]
 pub enum Found {
     At(usize),
     Nothing,
 }
 
 // What a page is mapped to: the Rust's TranslateResult.
-#[derive(Drop)]
+#[derive(Clone, Copy)]
 pub enum Translated {
     Mapped(Mapping),
     NotMapped,
 }
 
 // What backs a page of a region, with the number of its holders: a page entry (its row) or the range.
-#[derive(Drop)]
+#[derive(Clone, Copy)]
 pub enum Backed {
     ByEntry {
         row: usize,
@@ -180,7 +182,7 @@ pub enum Backed {
 }
 
 // The ways of a page fault.
-#[derive(Drop)]
+#[derive(Clone, Copy)]
 pub enum Way {
     Refuse(Refusal),
     Already,
@@ -196,28 +198,28 @@ pub enum Way {
 }
 
 // The answer of a call that gives no value.
-#[derive(Drop)]
+#[derive(Clone, Copy)]
 pub enum Done {
     Yes,
     No(Refusal),
 }
 
 // The answer of open: the process's number.
-#[derive(Drop)]
+#[derive(Clone, Copy)]
 pub enum Opened {
     Process(u64),
     No(Refusal),
 }
 
 // The answer of creation and of the look-up at an address: the region's start.
-#[derive(Drop)]
+#[derive(Clone, Copy)]
 pub enum Placed {
     At(VirtAddr),
     No(Refusal),
 }
 
 // The answer of covers.
-#[derive(Drop)]
+#[derive(Clone, Copy)]
 pub enum Covering {
     Covered,
     Uncovered,
@@ -225,7 +227,7 @@ pub enum Covering {
 }
 
 // The answer of load.
-#[derive(Drop)]
+#[derive(Clone, Copy)]
 pub enum Loaded {
     Byte(u8),
     No(Refusal),
@@ -233,7 +235,7 @@ pub enum Loaded {
 
 // The answer of carve and of the list of regions, as the definitions have it: the first `count` of `starts` are the regions' starts,
 // the rest 0. Code answers `Counted` and puts the starts into lent memory.
-#[derive(Drop)]
+#[derive(Clone, Copy)]
 pub struct Listed {
     pub done: Done,
     pub count: u64,
@@ -241,7 +243,7 @@ pub struct Listed {
 }
 
 // A call of the machine. Start is not among them: it is lent the files' rows.
-#[derive(Drop)]
+#[derive(Clone, Copy)]
 pub enum Call {
     Sound,
     Open {
@@ -349,14 +351,14 @@ pub enum Call {
 
 // The answer of carve and of the list of regions where memory for 64 starts is lent: how many stand there. Zeros stand behind them, and
 // alone where the call is refused.
-#[derive(Drop)]
+#[derive(Clone, Copy)]
 pub struct Counted {
     pub done: Done,
     pub count: u64,
 }
 
 // The answer of any call.
-#[derive(Drop)]
+#[derive(Clone, Copy)]
 pub enum Answer {
     Done(Done),
     Opened(Opened),

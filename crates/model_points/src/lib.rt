@@ -1,1 +1,2 @@
 // Theorems alone: what the definitions of crate `model` compute beside the edges.
+#![tactic(auto)]

@@ -1,5 +1,5 @@
 -- One pin less, and whether that ends the region (RULES M2).
-use Rattle.core.specs.Prelude.{◌≡◌, ℕ, Bool, not, ◌&&◌, ◌==◌}
+use Rattle.std.specs.Prelude.{◌≡◌, ℕ, Bool, not, ◌&&◌, ◌==◌}
 use Rattle.model.specs.Machine.{Machine}
 use Rattle.model.specs.Lookup.{is_attached}
 use Rattle.model.specs.Pins.{unpin_region}

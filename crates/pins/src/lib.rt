@@ -1,5 +1,7 @@
 // The cores of pin and unpin, on a machine that has been tested sound.
-ghost use Rattle.core.specs.Prelude.{◌≡◌, ◌<◌, length};
+#![tactic(auto)]
+
+ghost use Rattle.std.specs.Prelude.{◌≡◌, ◌<◌, length};
 ghost use Rattle.model.specs.Layout.{word_count, machine};
 ghost use Rattle.model.specs.Lookup.{is_attached};
 ghost use Rattle.model.specs.Pins.{with_pins};
@@ -9,7 +11,7 @@ ghost use Rattle.pins.specs.Unpins.{ends_by, Unpinned};
 
 use address::VirtAddr;
 use answers::Refusal;
-use backing::core::fewer;
+use backing::by_value::fewer;
 use lookup::attached::{any_region_for, attached_count};
 use lookup::named::{Named, region_named};
 use lookup::search::is_open;

@@ -1,5 +1,6 @@
 // Eager populate: every Private CopyEager region of a process populated by the access that it grants, in list order. The Rust's
 // populate_eager_copies.
+#![tactic(auto)]
 ghost use Rattle.std.specs.Prelude.{◌≡◌, true, ◌<◌, length};
 ghost use Rattle.model.specs.Layout.{word_count};
 ghost use Rattle.model.specs.SoundTest.{soundb};
@@ -17,7 +18,7 @@ use regions::slot::region_in;
 use rows::slots::order_at;
 
 // A tour of a process's regions: the place in the list, how many are left, and the answer so far. Once it has ended none is left.
-#[derive(Drop)]
+#[derive(Clone, Copy)]
 pub struct Tour {
     pub next: usize,
     pub left: usize,

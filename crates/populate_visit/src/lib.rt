@@ -1,4 +1,5 @@
 // Which pages populate visits: the range of an address and a length, the next region past a gap, and how a walk goes on.
+#![tactic(auto)]
 ghost use Rattle.std.specs.Prelude.{◌≡◌, ◌+◌, ◌*◌, ◌/◌, ◌^◌, ◌<◌, length, get_or};
 ghost use Rattle.model.specs.Layout.{word_count, machine};
 ghost use Rattle.model.specs.Machine.{region_at};
@@ -12,7 +13,7 @@ use regions::slot::region_in;
 use rows::slots::order_at;
 
 // Where a range ends: nowhere, above the user addresses, or at its last address.
-#[derive(Drop)]
+#[derive(Clone, Copy)]
 pub enum Span {
     Nothing,
     Upper,
@@ -20,7 +21,7 @@ pub enum Span {
 }
 
 // A walk: the next page, how many steps are left, and the answer so far. Once it has ended none is left.
-#[derive(Drop)]
+#[derive(Clone, Copy)]
 pub struct Visit {
     pub page: Page,
     pub left: u64,

@@ -1,4 +1,6 @@
 // The core of protect, on a machine that has been tested sound.
+#![tactic(auto)]
+
 ghost use Rattle.std.specs.Prelude.{◌≡◌, ◌<◌, length, get_or, set};
 ghost use Rattle.model.specs.Layout.{word_count, machine};
 ghost use Rattle.model.specs.Machine.{no_mapping};

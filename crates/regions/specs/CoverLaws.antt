@@ -1,24 +1,22 @@
 -- Laws of `Cover`: attached regions are apart, so the addresses of a range that lie in them can be added up region by region; all of them
 -- lie there exactly if the sum is the range's length.
-use Rattle.std.specs.Prelude.{◌≡◌, ◌⊎◌, Bool, not, ◌&&◌, ℕ, zero, suc, ◌+◌, ◌-◌, ◌*◌, ◌≤◌, ◌<◌, get_or, drop, eqb, ltb, leb}
+use Rattle.std.specs.Prelude.{◌≡◌, Bool, ◌&&◌, ℕ, zero, suc, ◌+◌, ◌-◌, ◌*◌, ◌≤◌, ◌<◌, get_or, drop, eqb, ltb, leb}
 use Rattle.std.proofs.Math.Path.{refl, ap}
-use Rattle.std.proofs.Common.{sym, subst, ◌∙◌, inl, inr, add-one, drop_of_length-le, drop-cons, ltb-true, ltb-false, leb-true, leb-false, lt-ltb, le-ltb, le-leb, eq-eqb, ne_eqb, eqb-true}
+use Rattle.std.proofs.Common.{sym, subst, ◌∙◌, inl, inr, add-one, drop_of_length-le, drop-cons, ltb-true, ltb-false, leb-true, leb-false, lt-ltb, le-ltb, eq-eqb, ne_eqb}
 use Rattle.std.proofs.Math.Bool.{true, false, cond}
 use mathlib.Core.List.{List, [], ◌∷◌}
 use native.Mathlib.Omega.{arith}
 use Rattle.std.proofs.Math.ListN.{length}
-use Rattle.std.proofs.lemmas.Bool.{lt-leb}
 use Rattle.model.specs.declared.Region.{Region}
 use Rattle.model.specs.Layout.{machine}
 use Rattle.model.specs.Machine.{Machine, region_at, order_of, no_region}
 use Rattle.model.specs.Lookup.{contains, span_end, covered}
-use Rattle.model.specs.LookupLaws.{Attached, Covered, covered_tells}
+use Rattle.model.specs.LookupLaws.{Covered, covered_tells}
 use Rattle.model.specs.RecordLaws.{sound_tells}
 use Rattle.laws.specs.BoolLaws.{clash, or_right}
 use Rattle.laws.specs.Lists.{any, among, count}
 use Rattle.laws.specs.CountLaws.{count_least}
 use Rattle.laws.specs.In.{In, Once}
-use Rattle.laws.specs.InListsLaws.{among_in, in_among}
 use Rattle.laws.specs.TellsLaws.{told}
 use Rattle.laws.specs.Tells.{Tells}
 use Rattle.lookup.specs.AttachedLaws.{order_slot}

@@ -1,5 +1,5 @@
 -- Laws of a loop that picks from a list: what F takes of its first i rows is put into an array, one after the other.
-use Rattle.std.specs.Prelude.{◌≡◌, refl, List, [], ◌∷◌, ◌++◌, ℕ, ◌+◌, ◌≤◌, ◌<◌, length, get_or, take}
+use Rattle.std.specs.Prelude.{◌≡◌, List, [], ◌∷◌, ◌++◌, ℕ, ◌+◌, ◌≤◌, ◌<◌, length, get_or, take}
 use Rattle.std.proofs.Common.{ap, sym, ◌∙◌, arith, add-one, length-append, take-suc, take_all}
 use Rattle.std.proofs.lemmas.List.Edits.{sets}
 use Rattle.laws.specs.ListsLaws.{sets_append}

@@ -1,4 +1,6 @@
 // A process's regions: the region at an address, whether they cover a range, their starts, a region more or less in the list.
+#![tactic(auto)]
+
 pub mod add;
 pub mod counts;
 pub mod cover;

@@ -1,5 +1,5 @@
 -- A function done to every mapped row of a process, one row after the other (RULES K2, M1).
-use Rattle.std.specs.Prelude.{List, ◌++◌, map, ℕ, ◌+◌, length, take, drop}
+use Rattle.std.specs.Prelude.{List, ◌++◌, map, ℕ, length, take, drop}
 use Rattle.model.specs.declared.Mapping.{Mapping}
 use Rattle.model.specs.Machine.{Machine, mapped_of}
 use Rattle.paging.specs.ProcessRows.{rows_of, with_rows}

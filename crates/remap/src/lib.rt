@@ -1,4 +1,6 @@
 // A process's mapped pages given other flags, row by row; a region's made read-only.
+#![tactic(auto)]
+
 ghost use Rattle.std.specs.Prelude.{◌≡◌, ◌<◌, length, get_or, set};
 ghost use Rattle.model.specs.Layout.{word_count, machine};
 ghost use Rattle.model.specs.Machine.{no_mapping};

@@ -8,7 +8,6 @@ use Rattle.std.proofs.Math.ListN.{get_or}
 use Rattle.model.specs.declared.Backing.{Backing}
 use Rattle.model.specs.declared.Pool.{Pool}
 use Rattle.model.specs.declared.Region.{Region}
-use Rattle.laws.specs.Lists.{count}
 use Rattle.model.specs.Machine.{Machine, State, no_backing, no_region}
 use Rattle.model.specs.Lookup.{is_used, is_ranged}
 use Rattle.model.specs.Backing.{backing_at, with_backings, let_go}

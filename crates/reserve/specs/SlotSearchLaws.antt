@@ -1,5 +1,5 @@
 -- The search over a process's slots as they stand: whichever segment in the way is met first, it ends at the same lowest start.
-use Rattle.std.specs.Prelude.{◌≡◌, Bool, ◌&&◌, ltb, length, get_or}
+use Rattle.std.specs.Prelude.{◌≡◌, Bool, ◌&&◌, ltb, get_or}
 use Rattle.std.proofs.Math.Path.{refl, ap}
 use Rattle.std.proofs.Common.{sym, ◌∙◌, ltb-true, ltb-false}
 use Rattle.std.proofs.Math.Bool.{true, false, cond}

@@ -14,7 +14,7 @@ use rows::sizes::pages_for;
 use rows::slots::region_at;
 
 // The start of a new segment, where there is room for it.
-#[derive(Drop)]
+#[derive(Clone, Copy)]
 pub enum FoundSpot {
     At(VirtAddr),
     Nothing,

@@ -1,4 +1,6 @@
 // The machine's tables among its lent words: rows are read and put by value, and nobody above sees a word.
+#![tactic(auto)]
+
 pub mod backings;
 pub mod files;
 pub mod pages;

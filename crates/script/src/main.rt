@@ -1,4 +1,5 @@
 // Runs a script of calls: reads a text from standard input, one call a line, and writes one answer a call.
+#![tactic(auto)]
 mod memory;
 mod output;
 mod session;

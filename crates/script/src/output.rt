@@ -2,7 +2,7 @@
 ghost use Rattle.std.specs.Prelude.{◌≡◌, ◌+◌, ◌≤◌, length};
 
 // How many bytes of answers are not yet written, and whether to go on.
-#[derive(Drop)]
+#[derive(Clone, Copy)]
 pub struct Output {
     pub at: usize,
     pub on: bool,

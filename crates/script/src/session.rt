@@ -11,7 +11,7 @@ use script_step::machine::{Machine, step};
 use script_step::said::Said;
 use text::Held;
 
-#[derive(Drop)]
+#[derive(Clone, Copy)]
 pub struct Session {
     pub lone: Lone,
     pub machine: Machine,
@@ -27,7 +27,7 @@ pub struct Session {
 }
 
 // What is to be written of a line, and the session after it.
-#[derive(Drop)]
+#[derive(Clone, Copy)]
 struct Heard {
     said: Said,
     session: Session,

@@ -9,7 +9,7 @@ use segments::{Listed, Segment, VirtualMemoryManager};
 use state_text::Cursor;
 
 // How far the answers reach, and what of the machine is left to show.
-#[derive(Drop)]
+#[derive(Clone, Copy)]
 pub struct Showing {
     pub output: Output,
     pub cursor: Cursor,

@@ -12,13 +12,13 @@ use call_text::{LoneCall, Why, whole_fault};
 use segments::{Answered, Released, Reserved, Segment, SplitInto, VirtualMemoryManager};
 
 // The manager, if there is one yet.
-#[derive(Drop)]
+#[derive(Clone, Copy)]
 pub struct Lone {
     pub made: bool,
     pub manager: VirtualMemoryManager,
 }
 
-#[derive(Drop)]
+#[derive(Clone, Copy)]
 pub struct Step {
     pub said: Said,
     pub lone: Lone,

@@ -15,7 +15,7 @@ use model::{Call, Done, FILES, FRAME_BYTES};
 use text::Word;
 
 // How much of the lent memory is in use: bytes of frames, files and their bytes; and the files' rows, three words each.
-#[derive(Drop)]
+#[derive(Clone, Copy)]
 pub struct Machine {
     pub started: bool,
     pub frames: usize,
@@ -24,7 +24,7 @@ pub struct Machine {
     pub rows: [u64; 24],
 }
 
-#[derive(Drop)]
+#[derive(Clone, Copy)]
 pub struct Stepped {
     pub said: Said,
     pub machine: Machine,

@@ -2,7 +2,7 @@
 use answer_text::Answer;
 use call_text::Fault;
 
-#[derive(Drop)]
+#[derive(Clone, Copy)]
 pub enum Said {
     Nothing,
     Fault(Fault),

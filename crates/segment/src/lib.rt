@@ -1,4 +1,6 @@
 // A segment of addresses: where it starts and how long it is.
+#![tactic(auto)]
+
 ghost use Rattle.std.specs.Prelude.{◌≡◌};
 ghost use Rattle.segment.specs.Form.{form_of, sameb, beforeb, overb};
 
@@ -6,14 +8,14 @@ use address::VirtAddr;
 use answers::Refusal;
 
 // `len` bytes from `start` on.
-#[derive(Drop)]
+#[derive(Clone, Copy)]
 pub struct Segment {
     pub start: VirtAddr,
     pub len: u64,
 }
 
 // The answer of a call that gives nothing back.
-#[derive(Drop)]
+#[derive(Clone, Copy)]
 pub enum Answered {
     Done,
     Refused(Refusal),

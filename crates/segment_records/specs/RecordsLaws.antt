@@ -123,10 +123,14 @@ module _ (n : ℕ) where
     insert_is j i r [] e h = absurd (not-suc-le-zero h)
     insert_is zero i r (x ∷ t) e h = rw (eq-eqb i n (omega arith))
     insert_is (suc j) i r (x ∷ t) e h =
-        rw (ne_eqb i n (λ f. omega arith)) (by (beforeb x s) (insert_is j (i + 1) x t (omega arith) (le_of_suc-le-suc h)) (placed_is (suc j) (i + 1) s x t (le_of_suc-le-suc h)))
+        ap (λ (c : Insertion). c.row ∷ over (suc j) (i + 1) c t) here
+        ∙ by (beforeb x s) (insert_is j (i + 1) x t (omega arith) (le_of_suc-le-suc h)) (placed_is (suc j) (i + 1) s x t (le_of_suc-le-suc h))
       where
         go : Insertion
         go = record { row = s; carry = x; placed = true }
+
+        here : carried_on (looking r) i n x ≡ cond (beforeb x s) (looking x) go
+        here = rw (ne_eqb i n (λ f. omega arith))
 
         by : (b : Bool) → over (suc j) (i + 1) (looking x) t ≡ insert s (take j t) ++ drop (suc j) t → over (suc j) (i + 1) go t ≡ x ∷ take j t ++ drop (suc j) t
             → (cond b (looking x) go).row ∷ over (suc j) (i + 1) (cond b (looking x) go) t ≡ cond b (x ∷ insert s (take j t)) (s ∷ x ∷ take j t) ++ drop (suc j) t

@@ -5,7 +5,7 @@ ghost use Rattle.segment_records.specs.Records.{turns_of, carrying_of, stays_of,
 use segment::Segment;
 
 // An insertion between two rows: what the last row became, what is carried on, and whether the new segment has its place.
-#[derive(Drop)]
+#[derive(Clone, Copy)]
 pub struct Insertion {
     pub row: Segment,
     pub carry: Segment,
@@ -13,7 +13,7 @@ pub struct Insertion {
 }
 
 // Where a segment stands among the rows.
-#[derive(Drop)]
+#[derive(Clone, Copy)]
 pub enum Stands {
     At(usize),
     Nothing,

@@ -1,4 +1,6 @@
 // The search for the lowest free start, over a table of words: two a row, start and length.
+#![tactic(auto)]
+
 ghost use Rattle.std.specs.Prelude.{◌≡◌, ◌+◌, ◌*◌, ◌≤◌, ◌<◌, length};
 ghost use Rattle.segment_search.specs.Search.{first_over, ahead, search};
 ghost use Rattle.segment_search.specs.SegmentWords.{table_of};
@@ -7,14 +9,14 @@ use address::VirtAddr;
 use segment::Segment;
 
 // The segment in the way.
-#[derive(Drop)]
+#[derive(Clone, Copy)]
 pub enum Found {
     In(Segment),
     Nothing,
 }
 
 // The lowest free start and how often the search started over.
-#[derive(Drop)]
+#[derive(Clone, Copy)]
 pub enum Search {
     Free(u64, u64),
     Full,

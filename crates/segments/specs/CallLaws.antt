@@ -24,7 +24,7 @@ use Rattle.segments.specs.declared.manager.Reserved.TheVariants as reserved
 use Rattle.segments.specs.declared.manager.Released.TheVariants as released
 use Rattle.segments.specs.declared.manager.SplitInto.TheVariants as split
 use Rattle.segments.specs.declared.manager.Listed.TheVariants as listed
-use Rattle.segment.specs.Form.{start_of, last_of, form_of, done}
+use Rattle.segment.specs.Form.{start_of, last_of, form_of}
 use Rattle.segment.specs.FormLaws.{form_last}
 use Rattle.segments.specs.Table.{held, arena, stored, soundb, insert, removed_at, place_of, no_segment, empty, remove, heldb}
 use Rattle.segment_search.specs.Search.{first_over, ahead, search}

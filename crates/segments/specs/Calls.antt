@@ -1,5 +1,5 @@
 -- The calls of a lone manager: what each answers and the manager that it leaves.
-use Rattle.std.specs.Prelude.{Bool, true, false, not, ◌&&◌, ◌||◌, cond, List, ◌++◌, ℕ, ◌+◌, ◌-◌, eqb, ltb, leb, replicate}
+use Rattle.std.specs.Prelude.{Bool, true, false, not, ◌&&◌, ◌||◌, cond, List, ◌++◌, ℕ, ◌-◌, eqb, ltb, leb, replicate}
 use Rattle.answers.specs.declared.Refusal.TheVariants.{BadTable, BadAddress, NoSpace, SegmentReserved, InvalidSplitPoint, NotReserved, TableFull}
 use Rattle.address.specs.declared.VirtAddr.{VirtAddr}
 use Rattle.address.specs.Canonical.{canonical}

@@ -1,4 +1,6 @@
 // The segment manager: which addresses of an arena are reserved. The Rust's crate kernel_virtual_memory.
+#![tactic(auto)]
+
 mod manager;
 mod table;
 

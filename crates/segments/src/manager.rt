@@ -11,14 +11,14 @@ use segment::{Answered, Segment};
 use segment_search::{Found, Search, find_overlapping_at, lowest_start};
 
 // The segment reserved, and how often the search started over.
-#[derive(Drop)]
+#[derive(Clone, Copy)]
 pub enum Reserved {
     At(Segment, u64),
     Refused(Refusal),
 }
 
 // Whether the segment was held.
-#[derive(Drop)]
+#[derive(Clone, Copy)]
 pub enum Released {
     Yes,
     No,
@@ -26,51 +26,51 @@ pub enum Released {
 }
 
 // The part below and the part above.
-#[derive(Drop)]
+#[derive(Clone, Copy)]
 pub enum SplitInto {
     Parts(Segment, Segment),
     Refused(Refusal),
 }
 
 // How many segments there are.
-#[derive(Drop)]
+#[derive(Clone, Copy)]
 pub enum Listed {
     Held(usize),
     Refused(Refusal),
 }
 
-#[derive(Drop)]
+#[derive(Clone, Copy)]
 pub struct NewAnswer {
     pub answer: Answered,
     pub manager: VirtualMemoryManager,
 }
 
-#[derive(Drop)]
+#[derive(Clone, Copy)]
 pub struct ReserveAnswer {
     pub answer: Reserved,
     pub manager: VirtualMemoryManager,
 }
 
-#[derive(Drop)]
+#[derive(Clone, Copy)]
 pub struct MarkAnswer {
     pub answer: Answered,
     pub manager: VirtualMemoryManager,
 }
 
-#[derive(Drop)]
+#[derive(Clone, Copy)]
 pub struct ReleaseAnswer {
     pub answer: Released,
     pub manager: VirtualMemoryManager,
 }
 
-#[derive(Drop)]
+#[derive(Clone, Copy)]
 pub struct SplitAnswer {
     pub answer: SplitInto,
     pub manager: VirtualMemoryManager,
 }
 
 // The segments in list order, and zeros after them.
-#[derive(Drop)]
+#[derive(Clone, Copy)]
 pub struct ListAnswer {
     pub answer: Listed,
     pub segments: [Segment; 64],

@@ -1,6 +1,8 @@
 // The segment manager for C and Rust programs, on words that the caller lends (include/segments.h): arena start, arena size,
 // count, and 64 rows of start and length. Each call answers 0, or the number of a refusal (RULES E), and sets all four words of
 // `out`. A refusal leaves the manager's words as they were; so does a slice of another length, whose answer is 1, BadTable.
+#![tactic(auto)]
+
 ghost use Rattle.std.specs.Prelude.{◌≡◌, []};
 ghost use Rattle.segments_c.specs.LentManager.{lent, new_on, mark_on, reserve_on, release_on, split_on};
 

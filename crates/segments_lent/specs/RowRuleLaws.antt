@@ -1,5 +1,5 @@
 -- Laws of `RowRule`: the pass tells what the table's rule asks, and what its loop knows after i rows.
-use Rattle.std.specs.Prelude.{◌≡◌, refl, ◌⊎◌, ℕ, ◌+◌, ◌-◌, ◌≤◌, ◌<◌, eqb, ltb, leb, length, get_or}
+use Rattle.std.specs.Prelude.{◌≡◌, refl, ℕ, ◌+◌, ◌-◌, ◌≤◌, ◌<◌, eqb, ltb, leb, length, get_or}
 use Rattle.std.proofs.Math.Path.{ap}
 use Rattle.std.proofs.Common.{sym, ◌∙◌, inl, inr, ⊎_elim, eqb-true, leb-true, leb-false, lt-ltb, le-leb, eq-eqb, ne_eqb}
 use mathlib.Core.Bool.{Bool, true, false, not, ◌&&◌, ◌||◌}

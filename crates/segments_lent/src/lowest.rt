@@ -12,14 +12,14 @@ use segment::Segment;
 use segment_search::Search;
 
 // The start that is tried, and how often the search started over.
-#[derive(Drop)]
+#[derive(Clone, Copy)]
 pub struct Probe {
     pub start: u64,
     pub restarts: u64,
 }
 
 // The try past one row.
-#[derive(Drop)]
+#[derive(Clone, Copy)]
 pub enum Tried {
     On(Probe),
     Full,

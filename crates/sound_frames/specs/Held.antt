@@ -1,5 +1,5 @@
 -- What the holders hold, as the rows that the code numbers: the entries, then the region slots.
-use Rattle.std.specs.Prelude.{Bool, not, ◌&&◌, cond, List, ◌++◌, map, ℕ, ◌/◌, ◌+◌, eqb, ltb}
+use Rattle.std.specs.Prelude.{Bool, not, ◌&&◌, cond, List, ◌++◌, map, ℕ, ◌/◌, eqb, ltb}
 use Rattle.model.specs.declared.Entry.{Entry}
 use Rattle.model.specs.declared.Region.{Region}
 use Rattle.model.specs.Machine.{Machine}

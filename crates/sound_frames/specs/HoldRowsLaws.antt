@@ -1,5 +1,5 @@
 -- The machine's holds as the numbered rows: where holders fit, the test of every two holds tells that holders of a frame are alike.
-use Rattle.std.specs.Prelude.{◌≡◌, Bool, true, false, ◌&&◌, ◌||◌, cond, ℕ, zero, suc, ◌+◌, ◌/◌, ◌<◌, get_or, eqb, ltb}
+use Rattle.std.specs.Prelude.{◌≡◌, Bool, true, false, ◌&&◌, ◌||◌, cond, ℕ, zero, suc, ◌/◌, ◌<◌, get_or, eqb, ltb}
 use Rattle.std.proofs.Math.Path.{refl, ap, sym}
 use Rattle.std.proofs.Common.{subst, ◌∙◌, zero-le, suc-le-suc, arith, lt-ltb}
 use Rattle.std.proofs.Math.Bool.{not}

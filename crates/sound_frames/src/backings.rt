@@ -8,7 +8,7 @@ use model::FRAMES;
 use rows::backings::{backing_at, frame_count, pool};
 
 // Of the rows met: where the last backing ends, how many frames are in none, and the first of them (the number of frames where there is none).
-#[derive(Drop)]
+#[derive(Clone, Copy)]
 struct Met {
     end: u64,
     free: u64,

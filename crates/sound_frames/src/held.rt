@@ -15,7 +15,7 @@ pub(crate) const HOLDERS: usize = 1024;
 
 // What an entry or a range holds: the backing's first frame, 256 where it holds none or none that can be marked, the page that it
 // is held at, and 1 for a Shared region.
-#[derive(Drop)]
+#[derive(Clone, Copy)]
 pub struct Held {
     pub frame: usize,
     pub page: u64,

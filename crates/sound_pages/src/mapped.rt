@@ -26,7 +26,7 @@ use rows::sizes::pages_for;
 use rows::slots::{order_at, region_at};
 
 // What an entry tells: its page's mapping fits, and the page that row 0 would have if all pages up to this one were mapped; or it does not.
-#[derive(Drop)]
+#[derive(Clone, Copy)]
 enum Marking {
     Fits(u64),
     Misfits,

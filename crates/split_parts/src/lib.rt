@@ -1,4 +1,6 @@
 // The parts of a region that is split at an address: the Rust's split of the three kinds.
+#![tactic(auto)]
+
 ghost use Rattle.std.specs.Prelude.{◌≡◌, ◌+◌, ◌-◌, ◌*◌, ◌<◌, ◌^◌, min};
 ghost use Rattle.model.specs.Lookup.{is_file};
 ghost use Rattle.model.specs.Create.{one};

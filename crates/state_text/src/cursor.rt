@@ -6,7 +6,7 @@ use address::Page;
 use text::Row;
 
 // A place in the text of the state.
-#[derive(Drop)]
+#[derive(Clone, Copy)]
 pub struct Cursor {
     // 0 for the line of all frames; then 257 places for each of 8 processes: its own line, 64 for attached regions, 64 for detached
     // ones, 128 for mapped pages; then 256 for frames in use, from 2057 on; then 2313 for the end.
@@ -23,14 +23,14 @@ pub struct Cursor {
 }
 
 // A line of the text, and what comes next.
-#[derive(Drop)]
+#[derive(Clone, Copy)]
 pub struct Line {
     pub row: Row,
     pub cursor: Cursor,
 }
 
 // Where the text put so far ends, and what comes next.
-#[derive(Drop)]
+#[derive(Clone, Copy)]
 pub struct Shown {
     pub at: usize,
     pub cursor: Cursor,

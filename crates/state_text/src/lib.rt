@@ -1,4 +1,5 @@
 // The machine's state as text, a line at a time.
+#![tactic(auto)]
 mod cursor;
 mod detached;
 mod lines;

@@ -1,5 +1,5 @@
 -- Laws of `Kind`: kind, number and values settle an answer (RULES H2).
-use Rattle.core.specs.Prelude.{◌≡◌, ℕ, cond, List, [], ◌∷◌, ◌==◌, slice_index, slice_index_or}
+use Rattle.std.specs.Prelude.{◌≡◌, ℕ, cond, List, [], ◌∷◌, ◌==◌, slice_index, slice_index_or}
 use Rattle.std.specs.Prelude.{refl}
 use Rattle.std.proofs.Common.{ap, sym, ◌∙◌}
 use Rattle.answers.specs.declared.Refusal.{Refusal}

@@ -1,5 +1,5 @@
 // Refusals in the shape of a call's answer.
-ghost use Rattle.core.specs.Prelude.{◌≡◌};
+ghost use Rattle.std.specs.Prelude.{◌≡◌};
 ghost use Rattle.model.specs.Meant.{refused, counts};
 
 use answers::Refusal;

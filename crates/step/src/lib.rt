@@ -1,7 +1,8 @@
 // One call of any kind, on a machine that has been tested sound: its core, and its answer.
+#![tactic(auto)]
 pub mod answer;
 
-ghost use Rattle.core.specs.Prelude.{◌≡◌, true, false, length};
+ghost use Rattle.std.specs.Prelude.{◌≡◌, true, false, length};
 ghost use Rattle.model.specs.Layout.{word_count};
 ghost use Rattle.model.specs.SoundTest.{soundb};
 ghost use Rattle.model.specs.Run.{call};
@@ -10,7 +11,7 @@ ghost use Rattle.rows.specs.LentMemory.{state_of, DoesWith};
 ghost use Rattle.step.specs.Kind.{kind_of, kind_for};
 
 use access::{load_core, store_core};
-use carve::core::carve_core;
+use carve::cores::carve_core;
 use clone_process::clone_core;
 use clone_region::clone_region_core;
 use create::kinds::{create_file, create_private, create_shared};
@@ -23,7 +24,7 @@ use process::close::close_core;
 use process::opened::open_core;
 use protect::protect_core;
 use regions::look::{covers_core, region_core, regions_core};
-use remove::core::{clear_core, remove_core};
+use remove::cores::{clear_core, remove_core};
 
 // Runs a call: one arm for each, in the order of the enum. Starts are put by the calls that list them, and by no other.
 pub fn step(

@@ -6,14 +6,14 @@ use crate::write::{put, put_decimal, put_hex};
 
 // A form by its place in a list of forms, and the numbers that it takes in order. Forms stand between blanks. In a form `_` is a blank,
 // `#` a number in decimal, `$` one in hexadecimal, `@` the word of that number in a list of words, and `~` a word of the input.
-#[derive(Drop)]
+#[derive(Clone, Copy)]
 pub struct Row {
     pub form: u64,
     pub numbers: [u64; 16],
 }
 
 // The place behind what is put of a form, and the next of its numbers.
-#[derive(Drop)]
+#[derive(Clone, Copy)]
 struct Putting {
     at: usize,
     next: u64,

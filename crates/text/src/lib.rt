@@ -1,4 +1,5 @@
 // The base of a script's text: lines out of chunks of input, words and numbers out of a line, bytes, numbers and forms as text.
+#![tactic(auto)]
 mod form;
 mod lines;
 mod number;

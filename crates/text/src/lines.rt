@@ -5,7 +5,7 @@ ghost use Rattle.text.specs.Lines.{line_length, without_return, Gathered};
 use crate::write::put;
 
 // How much of a line the buffer holds, and whether the line is longer than the buffer.
-#[derive(Drop)]
+#[derive(Clone, Copy)]
 pub struct Held {
     pub len: usize,
     pub long: bool,

@@ -3,7 +3,7 @@ ghost use Rattle.std.specs.Prelude.{◌≡◌, ◌+◌, ◌-◌, ◌≤◌, ◌|
 ghost use Rattle.text.specs.LineWords.{blanks, letters, word_at, Lies};
 
 // Where a word of a line starts and ends. It is empty if the line had no further word, and lies in the line if it is not.
-#[derive(Drop)]
+#[derive(Clone, Copy)]
 pub struct Word {
     pub from: usize,
     pub to: usize,

@@ -1,6 +1,6 @@
 -- `refuse`: zeros where starts are listed.
 use mathlib.Core.Path.{ap, sym, ◌∙◌}
-use Rattle.core.specs.Prelude.{Bool}
+use Rattle.std.specs.Prelude.{Bool}
 use Rattle.calls.specs.Ran.{starts_refused}
 use borrow.Author.Rules.{rules}
 use Rattle.calls.proofs.any_call.refuse.Statement.{statement}

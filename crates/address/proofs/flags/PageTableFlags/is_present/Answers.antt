@@ -1,0 +1,9 @@
+-- `PageTableFlags::is_present` is bit 0.
+use mathlib.Core.Path.{refl}
+use Rattle.address.specs.Bits.{bit}
+use Rattle.address.specs.FlagsLaws.{contains_one}
+use Rattle.address.proofs.flags.PageTableFlags.is_present.Goals as goal
+
+pub returns : goal.returns
+unfolding bit
+returns c = contains_one _ c.args.self.0 0 c.contains.ensures refl

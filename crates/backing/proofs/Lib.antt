@@ -1,2 +1,0 @@
--- What several walks share.
-mod Pools

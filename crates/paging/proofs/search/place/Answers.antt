@@ -1,0 +1,34 @@
+-- The answers for `place`.
+use mathlib.Core.Path.{◌∙◌}
+use native.Mathlib.Omega.{arith}
+use Rattle.model.specs.Layout.{machine}
+use Rattle.model.specs.Machine.{mapped_of}
+use Rattle.paging.specs.ProcessRowsLaws.{mapped_row}
+use Rattle.paging.specs.PlaceLaws.{search_first, search_up, search_down, search_done}
+use Rattle.paging.proofs.search.place.Goals as goal
+
+pub loop-lo-init : goal.loop-lo-init
+loop-lo-init c =
+    let given = c.args in
+    search_first (mapped_of (machine given.words.now) given.process) given.page.0 _ c.mapped_count-hi.ensures.value
+
+pub loop-lo-preserved-then-row-page : goal.loop-lo-preserved-then-row-page
+loop-lo-preserved-then-row-page c =
+    let given = c.args in
+    let turn = c.loop-lo in
+    let m = machine given.words.now in
+    let p = given.process in
+    search_up (mapped_of m p) given.page.0 turn.lo turn.hi turn.invariant c.loop-lo-test.true _ (c.row_at-row.ensures ∙ mapped_row m p _ (omega arith)) c.if-row-page.true
+
+pub loop-lo-preserved : goal.loop-lo-preserved
+loop-lo-preserved c =
+    let given = c.args in
+    let turn = c.loop-lo in
+    let m = machine given.words.now in
+    let p = given.process in
+    search_down (mapped_of m p) given.page.0 turn.lo turn.hi turn.invariant c.loop-lo-test.true _ (c.row_at-row.ensures ∙ mapped_row m p _ (omega arith)) c.if-row-page.false
+
+pub returns : goal.returns
+returns c =
+    let given = c.args in
+    let turn = c.loop-lo in record { value = search_done (mapped_of (machine given.words.now) given.process) given.page.0 turn.lo turn.hi turn.invariant c.loop-lo-test.false; upper_bound = omega arith }

@@ -1,0 +1,8 @@
+-- `frame_count` reads its words.
+use Rattle.model.specs.Layout.{machine}
+use borrow.Author.Rules.{rules}
+use Rattle.rows.proofs.backings.frame_count.Goals as goal
+
+pub returns : goal.returns
+unfolding machine
+returns c = search rules

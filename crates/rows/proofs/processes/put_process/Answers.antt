@@ -1,0 +1,22 @@
+-- `put_process` changes one row of its table and no other table: its stores write the row's words.
+use Rattle.rows.specs.RowWordsLaws.{write}
+use Rattle.rows.specs.PutsLaws.{put_process}
+use lib.ListN.{length-set}
+use native.Mathlib.Omega.{arith}
+use Rattle.rows.proofs.processes.put_process.Goals as goal
+
+pub bounds-words-at-2 : goal.bounds-words-at-2
+bounds-words-at-2 c = simp length-set (omega arith)
+
+pub bounds-words-at-3 : goal.bounds-words-at-3
+bounds-words-at-3 c = simp length-set (omega arith)
+
+pub bounds-words-at-4 : goal.bounds-words-at-4
+bounds-words-at-4 c = simp length-set (omega arith)
+
+pub bounds-words-at-5 : goal.bounds-words-at-5
+bounds-words-at-5 c = simp length-set (omega arith)
+
+pub returns : goal.returns
+unfolding write
+returns c = put_process _ c.requires.words_len _ _ c.requires.i_bound

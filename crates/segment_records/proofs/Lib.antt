@@ -1,3 +1,0 @@
--- What several walks share.
-mod Looped
-mod SegmentRow

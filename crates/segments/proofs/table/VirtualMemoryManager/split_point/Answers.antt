@@ -1,0 +1,18 @@
+-- `VirtualMemoryManager::split_point` is split_point: one law a way.
+use Rattle.segments.specs.CallLaws.{point_unsound, point_address, point_form, point_inside, point_outside}
+use Rattle.segments.proofs.table.VirtualMemoryManager.split_point.Goals as goal
+
+pub returns-then-not-is_sound : goal.returns-then-not-is_sound
+returns-then-not-is_sound c = point_unsound _ c.args.segment c.args.at _ c.is_sound.ensures c.if-not-is_sound.true
+
+pub returns-then-not-is_canonical : goal.returns-then-not-is_canonical
+returns-then-not-is_canonical c = point_address _ c.args.segment c.args.at _ c.is_sound.ensures c.if-not-is_sound.false _ c.is_canonical.ensures.test c.if-not-is_canonical.true
+
+pub returns-in-Refused : goal.returns-in-Refused
+returns-in-Refused c = point_form _ c.args.segment c.args.at _ c.is_sound.ensures c.if-not-is_sound.false _ c.is_canonical.ensures.test c.if-not-is_canonical.false _ c.form.ensures _ c.in-Refused.is
+
+pub returns-then-inside : goal.returns-then-inside
+returns-then-inside c = point_inside _ c.args.segment c.args.at _ c.is_sound.ensures c.if-not-is_sound.false _ c.is_canonical.ensures.test c.if-not-is_canonical.false _ c.form.ensures c.in_default.is _ c.inside.ensures c.if-inside.true
+
+pub returns-else-inside : goal.returns-else-inside
+returns-else-inside c = point_outside _ c.args.segment c.args.at _ c.is_sound.ensures c.if-not-is_sound.false _ c.is_canonical.ensures.test c.if-not-is_canonical.false _ c.form.ensures c.in_default.is _ c.inside.ensures c.if-inside.false

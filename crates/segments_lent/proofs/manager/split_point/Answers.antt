@@ -1,0 +1,22 @@
+-- `split_point` is point_lent: one law a way.
+use mathlib.Core.Path.{refl, sym, ◌∙◌}
+use Rattle.segments.specs.CallLaws.{point_address, point_form, point_inside, point_outside}
+use Rattle.segments_lent.specs.LentWords.{manager_of}
+use Rattle.segments_lent.specs.LentWordsLaws.{lent_sound_is}
+use Rattle.segments_lent.specs.LentCallsLaws.{point_unsound, point_sound}
+use Rattle.segments_lent.proofs.manager.split_point.Goals as goal
+
+pub returns-then-not-is_sound : goal.returns-then-not-is_sound
+returns-then-not-is_sound c = point_unsound c.args.words.now c.args.segment c.args.at _ c.is_sound.ensures c.if-not-is_sound.true
+
+pub returns-then-not-is_canonical : goal.returns-then-not-is_canonical
+returns-then-not-is_canonical c = point_sound c.args.words.now c.args.segment c.args.at _ c.is_sound.ensures c.if-not-is_sound.false _ (point_address (manager_of c.args.words.now) c.args.segment c.args.at _ refl (lent_sound_is c.args.words.now (sym c.is_sound.ensures ∙ c.if-not-is_sound.false)).1 _ c.is_canonical.ensures.test c.if-not-is_canonical.true)
+
+pub returns-in-Refused : goal.returns-in-Refused
+returns-in-Refused c = point_sound c.args.words.now c.args.segment c.args.at _ c.is_sound.ensures c.if-not-is_sound.false _ (point_form (manager_of c.args.words.now) c.args.segment c.args.at _ refl (lent_sound_is c.args.words.now (sym c.is_sound.ensures ∙ c.if-not-is_sound.false)).1 _ c.is_canonical.ensures.test c.if-not-is_canonical.false _ c.form.ensures _ c.in-Refused.is)
+
+pub returns-then-inside : goal.returns-then-inside
+returns-then-inside c = point_sound c.args.words.now c.args.segment c.args.at _ c.is_sound.ensures c.if-not-is_sound.false _ (point_inside (manager_of c.args.words.now) c.args.segment c.args.at _ refl (lent_sound_is c.args.words.now (sym c.is_sound.ensures ∙ c.if-not-is_sound.false)).1 _ c.is_canonical.ensures.test c.if-not-is_canonical.false _ c.form.ensures c.in_default.is _ c.inside.ensures c.if-inside.true)
+
+pub returns-else-inside : goal.returns-else-inside
+returns-else-inside c = point_sound c.args.words.now c.args.segment c.args.at _ c.is_sound.ensures c.if-not-is_sound.false _ (point_outside (manager_of c.args.words.now) c.args.segment c.args.at _ refl (lent_sound_is c.args.words.now (sym c.is_sound.ensures ∙ c.if-not-is_sound.false)).1 _ c.is_canonical.ensures.test c.if-not-is_canonical.false _ c.form.ensures c.in_default.is _ c.inside.ensures c.if-inside.false)
