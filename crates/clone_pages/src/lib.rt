@@ -1,5 +1,6 @@
 // A region's backed pages: how many there are, by entries and by its range, and an entry more.
 #![tactic(auto)]
+
 ghost use Rattle.std.specs.Prelude.{◌≡◌, true, cond, ◌+◌, ◌/◌, ◌<◌, ◌≤◌, length, eqb};
 ghost use Rattle.model.specs.Layout.{word_count, machine};
 ghost use Rattle.model.specs.Machine.{region_at};

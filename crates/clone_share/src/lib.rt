@@ -1,5 +1,6 @@
 // A region's clone that shares its backings: the source's mappings without WRITABLE, one holder more of its range and of each entry's frame.
 #![tactic(auto)]
+
 ghost use Rattle.std.specs.Prelude.{◌≡◌, ◌+◌, ◌<◌, length};
 ghost use Rattle.model.specs.Layout.{word_count, machine};
 ghost use Rattle.laws.specs.Lists.{each};

@@ -1,5 +1,5 @@
 -- A walk over pages, step by step: what is left of it gives what the whole gives (RULES U1).
-use Rattle.std.specs.Prelude.{◌≡◌, Bool, true, ℕ, ◌-◌, ◌<◌}
+use Rattle.std.specs.Prelude.{◌≡◌, Bool, true, ℕ, ◌<◌}
 use Rattle.model.specs.declared.Done.TheVariants.{Yes}
 use Rattle.model.specs.Machine.{State}
 use Rattle.model.specs.Answers.{Try, leaving, and_then}

@@ -1,5 +1,6 @@
 // Populate: faults over the pages of a range, in rising order.
 #![tactic(auto)]
+
 ghost use Rattle.std.specs.Prelude.{◌≡◌, true, ◌^◌, ◌<◌, length};
 ghost use Rattle.model.specs.declared.Done.TheVariants as done;
 ghost use Rattle.model.specs.Layout.{word_count};

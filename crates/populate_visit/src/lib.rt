@@ -1,5 +1,6 @@
 // Which pages populate visits: the range of an address and a length, the next region past a gap, and how a walk goes on.
 #![tactic(auto)]
+
 ghost use Rattle.std.specs.Prelude.{◌≡◌, ◌+◌, ◌*◌, ◌/◌, ◌^◌, ◌<◌, length, get_or};
 ghost use Rattle.model.specs.Layout.{word_count, machine};
 ghost use Rattle.model.specs.Machine.{region_at};
