@@ -1,5 +1,6 @@
 // A region's clone that copies its backed pages: each into the lowest free frame, the range's first, then the entries', in page order.
 #![tactic(auto)]
+
 ghost use Rattle.std.specs.Prelude.{◌≡◌, false, ◌+◌, ◌<◌, length};
 ghost use Rattle.model.specs.Layout.{word_count, machine};
 ghost use Rattle.model.specs.Lookup.{is_found};

@@ -1,5 +1,6 @@
 // The core of process cloning, on a machine that has been tested sound: the source's regions in list order, until one is refused.
 #![tactic(auto)]
+
 ghost use Rattle.std.specs.Prelude.{◌≡◌, true, ◌<◌, length};
 ghost use Rattle.model.specs.Layout.{word_count, machine};
 ghost use Rattle.model.specs.Machine.{region_at};

@@ -17,7 +17,7 @@ use Rattle.model.specs.Lookup.{is_private}
 use Rattle.model.specs.Paging.{is_user}
 use Rattle.laws.specs.BoolLaws.{both_true}
 use Rattle.model.specs.Answers.{Try, leaving, fine, first_of, and_then}
-use Rattle.model.specs.Populate.{visit, visits, nothing_to_do, last_address, core_populate, eager_region, eager_access, eagerly, eagerly_each, core_populate_eager_copies}
+use Rattle.model.specs.Populate.{visit, visits, nothing_to_do, core_populate, eager_region, eager_access, eagerly, eagerly_each, core_populate_eager_copies}
 use Rattle.model.specs.Refusals.{process_refusals}
 use Rattle.model.specs.Sound.{Sound, Limits}
 use Rattle.model.specs.SoundTest.{soundb}

@@ -1,6 +1,7 @@
 // Eager populate: every Private CopyEager region of a process populated by the access that it grants, in list order. The Rust's
 // populate_eager_copies.
 #![tactic(auto)]
+
 ghost use Rattle.std.specs.Prelude.{◌≡◌, true, ◌<◌, length};
 ghost use Rattle.model.specs.Layout.{word_count};
 ghost use Rattle.model.specs.SoundTest.{soundb};

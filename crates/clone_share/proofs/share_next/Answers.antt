@@ -8,7 +8,7 @@ use borrow.Author.Rules.{rules}
 use Rattle.clone_share.proofs.share_next.Goals as goal
 
 pub returns-in_default : goal.returns-in_default
-returns-in_default c = let the = absurd (next_missing _ c.requires.share_next.found (sym c.next_entry.ensures ∙ c.in_default.is)) in record { result_value = the.0; words_after = the.1 }
+returns-in_default c = absurd (next_missing _ c.requires.share_next.found (sym c.next_entry.ensures ∙ c.in_default.is))
 
 pub entry_at-e-requires : goal.entry_at-e-requires
 entry_at-e-requires c =
