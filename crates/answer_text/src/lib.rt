@@ -1,5 +1,6 @@
 // Answers as text: those of the manager and of the machine, and what is wrong with a line.
 #![tactic(auto)]
+
 mod answer;
 mod bad_line;
 mod machine;

@@ -1,5 +1,5 @@
 -- Words with their first one apart: what stands behind it is lent, and comes back.
-use Rattle.std.specs.Prelude.{◌≡◌, List, [], ◌∷◌, ◌++◌, ℕ, ◌-◌, length, set, take, drop}
+use Rattle.std.specs.Prelude.{◌≡◌, List, ◌∷◌, ◌++◌, ℕ, ◌-◌, length, set, take, drop}
 use Rattle.std.proofs.Common.{ap, ◌∙◌, append-nil, arith, drop_of_length-le}
 use Rattle.std.proofs.Math.Seq.{take-length}
 

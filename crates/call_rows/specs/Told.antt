@@ -1,5 +1,5 @@
 -- What of an answer stands where, in words (RULES O1).
-use Rattle.std.specs.Prelude.{List, [], ℕ, get_or}
+use Rattle.std.specs.Prelude.{[], ℕ, get_or}
 use Rattle.model.specs.declared.Answer.{Answer}
 use Rattle.model.specs.Meant.{reply}
 

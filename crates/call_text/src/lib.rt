@@ -1,5 +1,6 @@
 // What a line of a script asks for: of the lone manager, or of the machine.
 #![tactic(auto)]
+
 mod asked;
 mod digits;
 mod operand;

@@ -1,5 +1,6 @@
 // The numbering of the machine's calls: a call out of its number and its arguments.
 #![tactic(auto)]
+
 ghost use Rattle.std.specs.Prelude.{◌≡◌, ◌&&◌, ◌≤◌, ◌<◌};
 ghost use Rattle.call_words.specs.CallOf.{call_of, private_of, file_of, place_of, population_of, fork_of, flagb, count_of};
 

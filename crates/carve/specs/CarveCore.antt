@@ -1,5 +1,5 @@
 -- What the core of carve needs, and what it leaves and answers (RULES V1 to V4).
-use Rattle.std.specs.Prelude.{◌≡◌, List, ℕ, ◌-◌, ◌%◌, ◌<◌}
+use Rattle.std.specs.Prelude.{◌≡◌, List, ℕ, ◌%◌, ◌<◌}
 use Rattle.model.specs.declared.Listed.{Listed}
 use Rattle.model.specs.Machine.{Machine, process_at}
 use Rattle.model.specs.Layout.{machine}

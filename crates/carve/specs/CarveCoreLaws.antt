@@ -1,5 +1,5 @@
 -- The core of carve: the bounds, the array, the range carved; and the call's refusals.
-use Rattle.std.specs.Prelude.{◌≡◌, refl, Bool, true, false, ◌||◌, not, List, ◌++◌, ℕ, ◌+◌, ◌-◌, ◌%◌, ◌≤◌, ◌<◌, length, take, drop, replicate, ltb}
+use Rattle.std.specs.Prelude.{◌≡◌, refl, true, false, ◌||◌, not, List, ◌++◌, ℕ, ◌+◌, ◌-◌, ◌%◌, ◌≤◌, ◌<◌, length, take, drop, replicate, ltb}
 use Rattle.std.proofs.Math.Path.{ap}
 use Rattle.std.proofs.Common.{sym, subst, ◌∙◌, arith, take_all, eqb-true, eq-eqb, ne_eqb, lt-ltb, le-ltb}
 use Rattle.std.proofs.lemmas.List.Edits.{sets, sets-eq}

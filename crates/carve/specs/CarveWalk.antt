@@ -1,5 +1,5 @@
 -- The walk over the regions that are taken out (RULES V3).
-use Rattle.std.specs.Prelude.{◌≡◌, Bool, true, false, List, ℕ, ◌-◌, ◌%◌}
+use Rattle.std.specs.Prelude.{◌≡◌, Bool, true, false, List, ℕ, ◌%◌}
 use Rattle.model.specs.declared.Done.{Done}
 use Rattle.model.specs.declared.Done.TheVariants.{Yes, No}
 use Rattle.model.specs.Machine.{Machine}

@@ -1,5 +1,5 @@
 -- A region against a range, test by test, with no sum that could be too large (RULES V2, V4).
-use Rattle.std.specs.Prelude.{Bool, ◌&&◌, not, ℕ, ◌-◌}
+use Rattle.std.specs.Prelude.{Bool, ◌&&◌, not, ℕ}
 use Rattle.model.specs.declared.Region.{Region}
 use Rattle.model.specs.Lookup.{overlaps, lies_inside}
 

@@ -1,5 +1,6 @@
 // The regions that a range cuts, taken out of a process's list: those that overlap it without lying inside.
 #![tactic(auto)]
+
 ghost use Rattle.std.specs.Prelude.{◌≡◌, [], ◌∷◌, ◌+◌, ◌*◌, ◌<◌, ◌≤◌, length, get_or};
 ghost use Rattle.std.proofs.lemmas.List.Edits.{sets};
 ghost use Rattle.model.specs.Layout.{word_count, machine};

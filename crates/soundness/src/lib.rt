@@ -1,6 +1,7 @@
 // The soundness test: whether lent memory is a machine that keeps R1 to R6. It takes any words, frames and files, and has
 // less than 1 KB of marks on the stack at any time.
 #![tactic(auto)]
+
 ghost use Rattle.std.specs.Prelude.{◌≡◌, ◌≤◌, length};
 ghost use Rattle.model.specs.Layout.{word_count, machine};
 ghost use Rattle.soundness.specs.SoundLent.{sound_lent};

@@ -1,5 +1,5 @@
 -- Page entries given to another row, one after the other.
-use Rattle.std.specs.Prelude.{◌&&◌, cond, ℕ, ◌-◌, eqb, leb}
+use Rattle.std.specs.Prelude.{◌&&◌, cond, ℕ, eqb, leb}
 use Rattle.model.specs.declared.Entry.{Entry}
 
 -- an entry, given to another owner where it is one owner's, from a page on

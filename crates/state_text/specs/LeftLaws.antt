@@ -1,5 +1,5 @@
 -- Laws of `Left`: how much of the state's text is left: a number that falls from line to line.
-use Rattle.std.specs.Prelude.{◌≡◌, ◌+◌, ◌-◌, ◌<◌, true, false}
+use Rattle.std.specs.Prelude.{◌≡◌, ◌+◌, ◌<◌, true, false}
 use Rattle.std.proofs.Common.{arith}
 use Rattle.state_text.specs.declared.cursor.Cursor.{Cursor}
 use Rattle.state_text.specs.Left.{left}

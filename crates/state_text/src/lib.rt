@@ -1,5 +1,6 @@
 // The machine's state as text, a line at a time.
 #![tactic(auto)]
+
 mod cursor;
 mod detached;
 mod lines;

@@ -1,5 +1,6 @@
 // The base of a script's text: lines out of chunks of input, words and numbers out of a line, bytes, numbers and forms as text.
 #![tactic(auto)]
+
 mod form;
 mod lines;
 mod number;

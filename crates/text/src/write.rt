@@ -7,7 +7,9 @@ pub fn put(out: &mut [u8], at: usize, text: &[u8]) -> usize
     requires { at + length text.now ≤ length out.old }
     ensures { Put out.old at text.now out.new result }
 {
-    at + bytes::copy(text, &mut out[at..])
+    let next = at + text.len();
+    out[at..next].copy_from_slice(text);
+    next
 }
 
 // Puts a number in decimal.

@@ -1,6 +1,5 @@
 -- The answers for `copy_entries`.
 use mathlib.Core.Path.{◌∙◌}
-use Prim.Native.Nat.{◌-◌}
 use native.Mathlib.Omega.{arith}
 use Rattle.clone_copy.specs.CopyEntriesLaws.{some_first, some_next, some_more, some_all}
 use Rattle.clone_copy.proofs.copy_entries.Goals as goal

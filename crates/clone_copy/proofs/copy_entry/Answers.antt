@@ -8,7 +8,8 @@ use Rattle.clone_copy.proofs.copy_entry.Goals as goal
 
 pub returns-in_default : goal.returns-in_default
 returns-in_default c =
-    let from = c.args in let the = absurd (frame_there (machine from.words.now) _ from.from.0 c.requires.can_copy (sym c.take_frame.ensures.result_value ∙ ap found_frame c.in_default.is)) in record { words_after = the.0; frames_after = the.1 }
+    let from = c.args in
+    absurd (frame_there (machine from.words.now) _ from.from.0 c.requires.can_copy (sym c.take_frame.ensures.result_value ∙ ap found_frame c.in_default.is))
 
 pub copy-requires : goal.copy-requires
 copy-requires c =

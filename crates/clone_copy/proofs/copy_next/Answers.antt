@@ -9,7 +9,7 @@ use borrow.Author.Rules.{rules}
 use Rattle.clone_copy.proofs.copy_next.Goals as goal
 
 pub returns-in_default : goal.returns-in_default
-returns-in_default c = let the = absurd (next_missing _ c.requires.copy_next.found (sym c.next_entry.ensures ∙ c.in_default.is)) in record { result_value = the.0; words_after = the.1.0; frames_after = the.1.1 }
+returns-in_default c = absurd (next_missing _ c.requires.copy_next.found (sym c.next_entry.ensures ∙ c.in_default.is))
 
 pub entry_at-e-requires : goal.entry_at-e-requires
 entry_at-e-requires c =

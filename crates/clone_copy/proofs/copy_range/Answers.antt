@@ -1,6 +1,5 @@
 -- The answers for `copy_range`.
 use mathlib.Core.Path.{◌∙◌}
-use Prim.Native.Nat.{◌-◌}
 use native.Mathlib.Omega.{arith}
 use Rattle.clone_copy.specs.CopyRangeLaws.{range_first, range_can, range_more, range_all}
 use Rattle.clone_copy.proofs.copy_range.Goals as goal
@@ -23,7 +22,7 @@ nth_page-requires c = let long = c.requires.range_copy.long in omega arith
 pub copy_bare-requires : goal.copy_bare-requires
 copy_bare-requires c =
     let from = c.args in
-    let inv = c.loop-i.invariant in let the = (inv.words ∙ c.requires.words_len, (c.requires.src_bound, (c.requires.row_bound, range_can from.words.now from.frames.now from.src from.row from.region from.len c.requires.range_copy _ _ _ inv c.loop-i-test.true _ c.nth_page.ensures))) in record { words_len = the.0; src_bound = the.1.0; row_bound = the.1.1.0; can_copy = the.1.1.1 }
+    let inv = c.loop-i.invariant in record { words_len = inv.words ∙ c.requires.words_len; src_bound = c.requires.src_bound; row_bound = c.requires.row_bound; can_copy = range_can from.words.now from.frames.now from.src from.row from.region from.len c.requires.range_copy _ _ _ inv c.loop-i-test.true _ c.nth_page.ensures }
 
 pub overflow_add-i : goal.overflow_add-i
 overflow_add-i c = let long = c.requires.range_copy.long in omega arith
@@ -31,9 +30,8 @@ overflow_add-i c = let long = c.requires.range_copy.long in omega arith
 pub loop-i-preserved : goal.loop-i-preserved
 loop-i-preserved c =
     let from = c.args in
-    let copied = c.copy_bare in
     range_more from.words.now from.frames.now from.src from.row from.region from.len c.requires.range_copy _ _ _ c.loop-i.invariant
-    c.loop-i-test.true _ c.nth_page.ensures _ _ copied.auto.0 copied.auto.1.0 copied.ensures.0 copied.ensures.1
+    c.loop-i-test.true _ c.nth_page.ensures _ _ c.copy_bare.auto.words c.copy_bare.auto.frames c.copy_bare.ensures.words_after c.copy_bare.ensures.frames_after
 
 pub shape_of-words : goal.shape_of-words
 shape_of-words c = c.loop-i.invariant.words

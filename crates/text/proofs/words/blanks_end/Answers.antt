@@ -1,0 +1,14 @@
+-- The answers for `blanks_end`.
+use Rattle.std.proofs.Common.{sym, ◌∙◌, arith}
+use Rattle.text.specs.LineWordsLaws.{blanks_more, blanks_none, blanks_ended}
+use Rattle.text.proofs.words.blanks_end.Goals as goal
+
+pub returns-then-not-is_blank : goal.returns-then-not-is_blank
+returns-then-not-is_blank c = record { value = blanks_none c.args.line.now c.loop-i.i c.is_blank.result c.is_blank.ensures c.loop-i-test.true c.if-not-is_blank.true ∙ c.loop-i.invariant.2; lower_bound = (c.loop-i.invariant.0, c.loop-i.invariant.1) }
+
+pub loop-i-preserved : goal.loop-i-preserved
+loop-i-preserved c =
+    (omega arith, omega arith, sym (blanks_more c.args.line.now c.loop-i.i c.is_blank.result c.is_blank.ensures c.loop-i-test.true c.if-not-is_blank.false) ∙ c.loop-i.invariant.2)
+
+pub returns : goal.returns
+returns c = record { value = blanks_ended c.args.line.now c.loop-i.i c.loop-i-test.false ∙ c.loop-i.invariant.2; lower_bound = (c.loop-i.invariant.0, c.loop-i.invariant.1) }
