@@ -1,10 +1,9 @@
 -- What making a planned region leaves: a run's frames zeroed and claimed, the row put last in the list.
-use Rattle.std.specs.Prelude.{◌≡◌, true, List, ℕ, ◌+◌, ◌*◌, ◌≤◌, ◌<◌, length}
+use Rattle.std.specs.Prelude.{◌≡◌, true, List, ℕ, ◌+◌, ◌*◌, ◌≤◌, ◌<◌}
 use Rattle.model.specs.declared.Found.{Found}
 use Rattle.model.specs.declared.Found.TheVariants.{At, Nothing}
 use Rattle.model.specs.declared.Region.{Region}
 use Rattle.model.specs.Machine.{Machine, State, with_machine}
-use Rattle.model.specs.Layout.{machine}
 use Rattle.model.specs.Lookup.{pages_for}
 use Rattle.model.specs.Backing.{zero_frames}
 use Rattle.model.specs.Create.{placed_at, add_region, with_run}

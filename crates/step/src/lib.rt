@@ -1,5 +1,6 @@
 // One call of any kind, on a machine that has been tested sound: its core, and its answer.
 #![tactic(auto)]
+
 pub mod answer;
 
 ghost use Rattle.std.specs.Prelude.{◌≡◌, true, false, length};
