@@ -2,7 +2,6 @@
 use Rattle.std.specs.Prelude.{◌≡◌, ℕ, Bool, true, false, List, length, ◌≢◌}
 use Rattle.std.proofs.Math.Path.{refl, ap, sym}
 use Rattle.std.proofs.Common.{◌∙◌, true≢false}
-use Rattle.answers.specs.declared.Refusal.{Refusal}
 use Rattle.answers.specs.declared.Refusal.TheVariants.{BadTable}
 use Rattle.model.specs.declared.Answer.{Answer}
 use Rattle.model.specs.declared.Answer.TheVariants as says
@@ -22,7 +21,6 @@ use Rattle.step.specs.Kind.{kind_of, kind_for}
 use Rattle.step.specs.KindLaws.{one_answer}
 use Rattle.step.specs.StepLaws.{regions_looked}
 use Rattle.soundness.specs.SoundLent.{sound_lent}
-use Rattle.calls.specs.Answered.{answer_on, Leaves}
 use Rattle.calls.specs.AnsweredLaws.{sound_state, refused_whole, done_with}
 use Rattle.calls.specs.UnsoundLaws as un
 use Rattle.calls.specs.Ran.{Ran, reply_on, no_starts, none_for, starts_refused}

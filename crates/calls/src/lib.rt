@@ -1,5 +1,6 @@
 // The public calls on a machine in lent memory: each takes any words, frames and files, tests them first, and answers by the rules (RULES D1).
 #![tactic(auto)]
+
 mod any_call;
 mod change;
 mod clones;
