@@ -1,15 +1,13 @@
 -- Laws of `RunAll`: one call in words, each way through it; and whether the machine is sound afterwards.
-use Rattle.std.specs.Prelude.{◌≡◌, Bool, ◌&&◌, ℕ, ◌-◌, ◌%◌, length, set, take, drop}
+use Rattle.std.specs.Prelude.{◌≡◌, Bool, ◌&&◌, ℕ, ◌%◌, length, drop}
 use Rattle.std.proofs.Math.Path.{refl, ap, sym}
-use Rattle.std.proofs.Common.{subst, ◌∙◌, true≢false, arith}
+use Rattle.std.proofs.Common.{subst, ◌∙◌, true≢false}
 use Rattle.std.proofs.Math.Bool.{true, false, cond}
-use Rattle.std.proofs.lemmas.Bool.{false≢true}
-use mathlib.Core.List.{List, [], ◌∷◌, ◌++◌}
+use mathlib.Core.List.{List, [], ◌∷◌}
 use Rattle.std.proofs.Math.Dec.{eqb}
 use Rattle.std.proofs.Math.ListN.{replicate}
 use borrow.Author.Tests.{eqb-true, eqb-false, eq-eqb}
 use Rattle.answers.specs.declared.Refusal.TheVariants.{BadTable}
-use Rattle.laws.specs.BoolLaws.{both_true}
 use Rattle.laws.specs.Lists.{pad}
 use Rattle.laws.specs.TellsLaws.{told}
 use Rattle.model.specs.declared.Answer.{Answer}
@@ -21,7 +19,6 @@ use Rattle.model.specs.Answers.{After, Reply, Try, leaving, refuse, of_done}
 use Rattle.model.specs.Calls as calls
 use Rattle.model.specs.EmptyLaws.{start_sound}
 use Rattle.model.specs.Layout.{word_count}
-use Rattle.model.specs.Machine.{State}
 use Rattle.model.specs.Meant.{meant, reply, refused, counts}
 use Rattle.model.specs.RecordLaws.{sound_tells}
 use Rattle.model.specs.Run.{call, replying}
@@ -32,7 +29,6 @@ use Rattle.keeping.specs.CallsKept.{kept}
 use Rattle.rows.specs.LentMemory.{state_of, DoesWith}
 use Rattle.process.specs.Start.{Starts, start_call, files_of}
 use Rattle.soundness.specs.SoundLent.{sound_lent}
-use Rattle.call_words.specs.declared.Numbered.{Numbered}
 use Rattle.call_words.specs.declared.Numbered.TheVariants.{Is, None}
 use Rattle.call_rows.specs.Asked.{call_in, starts_with}
 use Rattle.call_rows.specs.AskedLaws.{behind_started}
@@ -43,7 +39,7 @@ use Rattle.calls.specs.Answered.{answer_on, Leaves}
 use Rattle.calls.specs.AnsweredLaws.{sound_length, sound_state}
 use Rattle.calls.specs.Ran.{no_starts, reply_on}
 use Rattle.calls.specs.RanLaws.{any_unsound}
-use Rattle.call_runs.specs.RunAll.{bad_table, named, started, fits, one_call, row_of, RanOne}
+use Rattle.call_runs.specs.RunAll.{bad_table, started, fits, one_call, row_of, RanOne}
 
 -- ---- whether the machine is sound
 

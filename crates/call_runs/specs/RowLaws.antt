@@ -1,6 +1,6 @@
 -- The words of a row as they are put: its number, its first value, and what stands behind, which is lent.
 use Rattle.std.specs.Prelude.{◌≡◌, refl, List, [], ◌∷◌, ◌++◌, ℕ, suc, ◌+◌, ◌-◌, ◌≤◌, length, set, take, drop, replicate}
-use Rattle.std.proofs.Common.{ap, sym, subst, ◌∙◌, append-nil, arith, length-set, length-drop, drop_of_length-le, length-take-le}
+use Rattle.std.proofs.Common.{ap, sym, ◌∙◌, append-nil, arith, length-set, length-drop, drop_of_length-le, length-take-le}
 use Rattle.call_rows.specs.BehindLaws.{behind, with_behind, behind_all, set_with_behind}
 
 -- what stands behind two words

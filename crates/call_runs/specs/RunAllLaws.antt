@@ -1,10 +1,9 @@
 -- Laws of `RunAll`: the calls that stand in words, their rows, and what the loop over them knows.
 use Rattle.std.specs.Prelude.{◌≡◌, refl, Bool, true, false, cond, ℕ, zero, suc, ◌+◌, ◌*◌, ◌-◌, ◌/◌, ◌≤◌, ◌<◌, eqb, leb, get_or, drop}
 use Rattle.std.proofs.Math.Path.{ap, sym}
-use Rattle.std.proofs.Common.{subst, ◌∙◌, arith, length-append, length-drop, drop_of_length-le, drop_at, drop-drop, drop-cons, length-take-le, leb-true, le-leb}
+use Rattle.std.proofs.Common.{◌∙◌, arith, length-append, length-drop, drop_of_length-le, drop_at, drop-drop, drop-cons, leb-true, le-leb}
 use mathlib.Core.List.{List, [], ◌∷◌, ◌++◌, append-nil, append_assoc}
 use Rattle.std.proofs.Math.ListN.{length, take}
-use Rattle.std.proofs.lemmas.List.{take-append-le}
 use Rattle.std.proofs.Math.Seq.{take_all, take_at}
 use Rattle.std.proofs.lemmas.Bool.{lt-leb}
 use Rattle.laws.specs.ListsLaws.{pad_length}

@@ -1,7 +1,7 @@
 -- Laws of `RunAll`: its calls are a sequence of the model's calls, so that what holds after any sequence holds after them (RULES D3).
 use Rattle.std.specs.Prelude.{◌≡◌, refl, Bool, true, false, cond, List, [], ◌∷◌, ◌++◌, ℕ, ◌%◌, eqb, length, drop}
 use Rattle.std.proofs.Common.{ap, sym, subst, ◌∙◌, eq-eqb}
-use Rattle.model.specs.Answers.{After, Reply, leaving, of_done}
+use Rattle.model.specs.Answers.{leaving, of_done}
 use Rattle.model.specs.Calls as calls
 use Rattle.model.specs.Layout.{word_count}
 use Rattle.model.specs.Machine.{State}
@@ -14,7 +14,7 @@ use Rattle.process.specs.Start.{files_of}
 use Rattle.call_words.specs.declared.Numbered.{Numbered}
 use Rattle.call_words.specs.declared.Numbered.TheVariants.{Is, None}
 use Rattle.call_rows.specs.Asked.{call_in, starts_with}
-use Rattle.call_runs.specs.RunAll.{bad_table, named, started, fits, one_call, run_all, running, RanAll}
+use Rattle.call_runs.specs.RunAll.{bad_table, named, started, one_call, run_all, running, RanAll}
 
 -- the model's calls that the words of one are: it, or none
 abbrev numbered : Numbered → List Call

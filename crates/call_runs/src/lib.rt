@@ -1,5 +1,6 @@
 // Many calls as words, with one soundness test for all of them: every call keeps the rules, so a test before each would say the same.
 #![tactic(auto)]
+
 ghost use Rattle.std.specs.Prelude.{◌≡◌, ◌≤◌, length};
 ghost use Rattle.call_runs.specs.RunAll.{end_of, RanAll};
 

@@ -24,7 +24,7 @@ use Rattle.isolation.specs.LoneHolder.{lone_alone}
 use Rattle.isolation.specs.LoadShows.{stores_stay_home}
 use Rattle.isolation.specs.EagerClone.{eager_clone_owns, eager_fork_owns}
 use Rattle.isolation.specs.RunStays.{view_stays, view_stays_long, clone_keeps_bytes, clone_loads, fork_keeps_bytes, fork_loads_stay, fork_part_keeps_bytes}
-use Rattle.model.specs.FileLaws.{run_keeps_bytes}
+use Rattle.model.proofs.FileLaws.{run_keeps_bytes}
 use Rattle.isolation.specs.BackedReads.{backed_reads}
 
 -- ---- the books

@@ -32,7 +32,6 @@ pub mod PointTableLaws
 pub mod Open
 pub mod PointRows
 pub mod RangeRows
-pub mod Points
 -- laws
 pub mod RuleUseLaws
 pub mod Holders
@@ -48,5 +47,3 @@ pub mod MachineLaws
 pub mod MappedBelowLaws
 pub mod VisitLaws
 pub mod PopulateLaws
-pub mod PopulateSoundLaws
-pub mod FileLaws

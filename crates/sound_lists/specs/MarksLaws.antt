@@ -12,7 +12,7 @@ use Rattle.model.specs.Machine.{Machine, region_at}
 use Rattle.laws.specs.Tests.{all_rows, all_pairs, Rows, Pairs}
 use Rattle.laws.specs.TestLaws.{tells_eq, tells_not, tells_bool, tells_as, tells_rows, tells_pairs}
 use Rattle.model.specs.SoundLaws.{tells_unit}
-use Rattle.model.specs.PopulateSoundLaws.{place_of}
+use Rattle.model.proofs.PopulateSoundLaws.{place_of}
 use Rattle.model.specs.SoundTest.{listedb}
 use Rattle.sound_lists.specs.Marks.{marked}
 

@@ -14,7 +14,7 @@ use Rattle.model.specs.Lookup.{first_slot, contains, span_end, segment_end, regi
 use Rattle.laws.specs.BoolLaws.{clash, both_true}
 use Rattle.model.specs.LookupLaws.{first_found, first_none}
 use Rattle.model.specs.Paging.{page_start}
-use Rattle.model.specs.PopulateSoundLaws.{place_of}
+use Rattle.model.proofs.PopulateSoundLaws.{place_of}
 use Rattle.model.specs.Sound.{Used, Apart, homes, only}
 use Rattle.lookup.specs.LookupsLaws.{processes_length, regions_length, slots_length}
 use Rattle.laws.specs.ListsLaws.{part_at}

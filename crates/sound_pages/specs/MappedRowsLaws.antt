@@ -13,7 +13,7 @@ use Rattle.address.specs.Pages.{page_of}
 use Rattle.model.specs.Layout.{machine}
 use Rattle.model.specs.Machine.{Machine, no_mapping, no_region, row_of, region_at, order_of, mapped_of}
 use Rattle.model.specs.Lookup.{row_found, contains, pages_for}
-use Rattle.model.specs.PopulateSoundLaws.{place_of}
+use Rattle.model.proofs.PopulateSoundLaws.{place_of}
 use Rattle.model.specs.Paging.{page_start}
 use Rattle.model.specs.Sound.{home_of}
 use Rattle.laws.specs.BoolLaws.{clash}
