@@ -8,4 +8,4 @@ pub returns-then-out-ne1 : goal.returns-then-out-ne1
 returns-then-out-ne1 c = record { told = told_nothing _ _ _ c.if-out-ne1.true; leaves_out = left_alone _ _ _ _ _ _ c.if-out-ne1.true }
 
 pub returns : goal.returns
-returns c = record { told = told_all _ _ _ _ _ c.if-out-ne1.false (c.tell_opened.ensures.value ∙ ap (λ x. (of_opened x).number) c.«open».ensures.0) (c.tell_opened.ensures.out_after ∙ ap (λ x. (of_opened x).values) c.«open».ensures.0); leaves_out = left_out _ _ _ _ _ _ c.if-out-ne1.false _ _ c.«open».ensures.1 }
+returns c = record { told = told_all _ _ _ _ _ c.if-out-ne1.false (c.tell_opened.ensures.value ∙ ap (λ x. (of_opened x).number) c.«open».ensures.value) (c.tell_opened.ensures.out_after ∙ ap (λ x. (of_opened x).values) c.«open».ensures.value); leaves_out = left_out _ _ _ _ _ _ c.if-out-ne1.false _ _ c.«open».ensures.leaves }
