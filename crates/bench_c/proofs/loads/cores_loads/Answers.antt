@@ -1,5 +1,5 @@
 -- The answers for `cores_loads`.
-use Rattle.std.proofs.Common.{◌-◌, sym, refl, ◌∙◌, arith, rules}
+use Rattle.std.proofs.Common.{sym, refl, ◌∙◌, arith, rules}
 use Rattle.calls.specs.AnsweredLaws.{sound_length, sound_frames}
 use Rattle.bench_c.specs.Loads.{sum_of}
 use Rattle.bench_c.specs.LoadsLaws.{one_more, no_machine, loaded, byte_at_is}

@@ -1,5 +1,5 @@
 -- The answers for `bench_steps`.
-use Rattle.std.proofs.Common.{◌-◌, sym, refl, ◌∙◌, zero-le, arith}
+use Rattle.std.proofs.Common.{sym, refl, ◌∙◌, zero-le, arith}
 use Rattle.calls.specs.AnsweredLaws.{sound_length, sound_state}
 use Rattle.call_runs.specs.OneLaws.{sound_stays}
 use Rattle.bench_c.proofs.steps.bench_steps.Goals as goal
