@@ -1,5 +1,5 @@
 // The answers that are not yet written.
-ghost use Rattle.std.specs.Prelude.{◌≡◌, ◌+◌, ◌≤◌, length, take, true, IfOk, OnOk};
+ghost use Rattle.std.specs.Prelude.{◌≡◌, ◌+◌, ◌<◌, ◌≤◌, length, take, true, IfOk, OnOk, OnErr};
 ghost use Rattle.std.specs.Io.KnownBytes.{Appends};
 
 use std::io;
@@ -25,7 +25,8 @@ impl Output {
 
     // With answers that reach so far.
     pub fn reaching(self, at: usize) -> Output
-        ensures { result.at ≡ at }
+        ensures reaches { result.at ≡ at }
+        ensures goes_on { result.on ≡ self.on }
     {
         Output { at, on: self.on }
     }
@@ -34,7 +35,9 @@ impl Output {
     pub fn with_room<W: Write>(self, writer: &mut W, out: &[u8]) -> io::Result<Output>
         requires at_in_bounds { self.at ≤ length out.now }
         requires in_bounds { 4096 ≤ length out.now }
-        ensures { IfOk result (λ o. o.at + 4096 ≤ length out.now) }
+        ensures room { IfOk result (λ o. o.at + 4096 ≤ length out.now) }
+        ensures goes_on { IfOk result (λ o. o.on ≡ self.on) }
+        ensures by_write { OnErr result ((self.on ≡ true) × (length out.now < self.at + 4096)) }
     {
         if out.len() - self.at < 4096 {
             self.flushed(writer, out)
@@ -47,6 +50,8 @@ impl Output {
     pub fn flushed<W: Write>(self, writer: &mut W, out: &[u8]) -> io::Result<Output>
         requires { self.at ≤ length out.now }
         ensures none_left { IfOk result (λ o. o.at ≡ 0) }
+        ensures goes_on { IfOk result (λ o. o.on ≡ self.on) }
+        ensures by_write { OnErr result (self.on ≡ true) }
         ensures written { OnOk result (self.on ≡ true → Appends (W.contents writer.old) (W.contents writer.new) (take self.at out.now)) }
     {
         let at = self.at;

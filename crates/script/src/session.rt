@@ -1,5 +1,5 @@
 // A run of a script: its manager, its machine, what is read and held of the input, and the answers that are not yet written.
-ghost use Rattle.std.specs.Prelude.{◌≡◌, ℕ, ◌≤◌, length, take, IfOk, OnErr};
+ghost use Rattle.std.specs.Prelude.{◌≡◌, ℕ, ◌≤◌, length, take, true, IfOk, OnErr};
 ghost use Rattle.std.specs.Io.KnownBytes.{Keeps, Consumes};
 ghost use Rattle.script_step.specs.MachineStep.{Lends};
 ghost use Rattle.script.specs.Session.{Kept, Reads};
@@ -67,6 +67,7 @@ impl Session {
         ensures kept { IfOk result (λ s. (line frames files starts : ℕ) → Kept self line (length out.now) frames files starts → Kept s line (length out.now) frames files starts) }
         ensures reads_2 { IfOk result (λ s. Reads s (length input.old)) }
         ensures not_read { OnErr result (Keeps (R.remaining reader.old) (R.remaining reader.new)) }
+        ensures by_stream { OnErr result (self.to ≤ self.from) }
     {
         if self.from < self.to {
             return Ok(self);
@@ -131,6 +132,7 @@ impl Session {
         requires { Kept self (length line.now) (length out.old) (length frames.old) (length files.old) (length starts.old) }
         ensures kept { IfOk result (λ s. Kept s (length line.now) (length out.old) (length frames.old) (length files.old) (length starts.old)) }
         ensures by_index { IfOk result (λ s. (input : ℕ) → Reads self input → Reads s input) }
+        ensures by_write { OnErr result ((self.ended ≡ true) × (self.output.on ≡ true)) }
     {
         if !self.ended {
             return Ok(self);
@@ -215,6 +217,7 @@ impl Session {
         ensures at_in_bounds_2 { IfOk result (λ s. s.output.at ≤ length out.old) }
         ensures held_value { IfOk result (λ s. (s.held ≡ self.held) × (s.machine ≡ self.machine)) }
         ensures by_index { IfOk result (λ s. (input : ℕ) → Reads self input → Reads s input) }
+        ensures by_write { OnErr result (self.output.on ≡ true) }
     {
         let output = self.output;
         let lone = self.lone;

@@ -1,5 +1,5 @@
 // What is written of a line, put behind the answers.
-ghost use Rattle.std.specs.Prelude.{◌≡◌, ◌+◌, ◌<◌, ◌≤◌, true, false, length, IfOk};
+ghost use Rattle.std.specs.Prelude.{◌≡◌, ◌+◌, ◌<◌, ◌≤◌, true, false, length, IfOk, OnErr};
 ghost use Rattle.state_text.specs.Left.{left};
 
 use crate::output::Output;
@@ -33,7 +33,8 @@ pub fn put_said<W: Write>(
 ) -> io::Result<Output>
     requires at_in_bounds { output.at + 4096 ≤ length out.old }
     requires starts_len { length starts.now ≡ 64 }
-    ensures { IfOk result (λ o. o.at ≤ length out.old) }
+    ensures at_in_bounds_2 { IfOk result (λ o. o.at ≤ length out.old) }
+    ensures by_write { OnErr result (output.on ≡ true) }
 {
     let at = output.at;
     match said {
@@ -91,7 +92,8 @@ fn put_state<W: Write>(
     frames: &[u8],
 ) -> io::Result<Output>
     requires { output.at + 4096 ≤ length out.old }
-    ensures { IfOk result (λ o. o.at ≤ length out.old) }
+    ensures at_in_bounds { IfOk result (λ o. o.at ≤ length out.old) }
+    ensures by_write { OnErr result (output.on ≡ true) }
 {
     let mut showing = Showing {
         output,
@@ -119,6 +121,8 @@ impl Showing {
         ensures at_in_bounds_2 { IfOk result (λ s. s.output.at ≤ length out.old) }
         ensures done_value_2 { IfOk result (λ s. s.more ≡ true → s.cursor.done ≡ false) }
         ensures cursor_bound { IfOk result (λ s. left s.cursor < left self.cursor) }
+        ensures goes_on { IfOk result (λ s. s.output.on ≡ self.output.on) }
+        ensures by_write { OnErr result (self.output.on ≡ true) }
     {
         let before = self.output;
         let cursor = self.cursor;
