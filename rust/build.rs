@@ -1,5 +1,5 @@
 //! Links the proved libraries: for each the file that its variable names, or what `oracle/native` has put under oracle/target/native,
-//! or what it builds now, which takes a minute or two.
+//! or what it builds now, for which the crates must be proved first, or it takes long.
 
 use std::path::{Path, PathBuf};
 use std::process::Command;
@@ -105,6 +105,6 @@ fn native(library: &Library, out: &Path) -> Result<(), String> {
         .unwrap_or("it does not say why")
         .to_owned();
     Err(format!(
-        "lib{name}.a is not there and cannot be built ({why}): name it by {variable}, or have `rt` on the path and run `rt check {name}`"
+        "lib{name}.a is not there and cannot be built ({why}): name it by {variable}, or have `rt` on the path and run `rt lib` in crates/{name}"
     ))
 }

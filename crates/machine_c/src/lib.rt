@@ -2,6 +2,7 @@
 // files' bytes. Each call answers 0, or the number of a refusal (RULES E), and sets all of `out`; where `out` has another length it
 // answers 1, BadTable, and changes nothing.
 #![tactic(auto)]
+
 ghost use Rattle.std.specs.Prelude.{◌≡◌, not, eqb};
 ghost use Rattle.address.specs.declared.VirtAddr.{VirtAddr};
 ghost use Rattle.model.specs.declared.Call.TheVariants as code;

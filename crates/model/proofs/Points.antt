@@ -1,5 +1,5 @@
--- P1 to P12 and two points of our own, together: one table, one statement, proved by computing the definitions.
-use Rattle.std.specs.Prelude.{◌≡◌, refl, Bool, true, List, [], ◌∷◌, ◌++◌, ℕ, ◌<◌, length, get_or}
+-- P1 to P12 and two points of our own, together: one statement of the table in specs/Points, proved by computing the definitions.
+use Rattle.std.specs.Prelude.{◌≡◌, refl, Bool, true, ℕ, ◌<◌, length, get_or}
 use Rattle.segments.specs.Points as segments
 use Rattle.laws.specs.Lists.{all}
 use Rattle.laws.specs.TestLaws.{tells_all, tells_bool}
@@ -10,14 +10,7 @@ use Rattle.laws.specs.ListsLaws.{all_both}
 use Rattle.model.specs.PointTableLaws.{holds_told}
 use Rattle.model.specs.PointRows.{p1_6, p7, p8, p9, p10, p10', p11, p12, unstarted}
 use Rattle.model.specs.RangeRows.{range_page, populates, opened}
-
--- P7 to P12, P10 in both orders, and our own
-unfoldable pub machine_rows : List Row
-machine_rows = p7 ∷ p8 ∷ p9 ∷ p10 ∷ p10' ∷ p11 ∷ p12 ∷ range_page ∷ populates ∷ []
-
--- P1 to P6 before them
-unfoldable pub table : List Row
-table = p1_6 ++ machine_rows
+use Rattle.model.specs.Points.{machine_rows, table}
 
 rowb : Row → Bool
 rowb r = holdsb r.events r.from

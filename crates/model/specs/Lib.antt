@@ -32,6 +32,7 @@ pub mod PointTableLaws
 pub mod Open
 pub mod PointRows
 pub mod RangeRows
+pub mod Points
 -- laws
 pub mod RuleUseLaws
 pub mod Holders

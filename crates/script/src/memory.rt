@@ -1,7 +1,14 @@
-// The memory that the machine is lent.
+// The memory that a line is held in, and that the machine is lent.
 ghost use Rattle.std.specs.Prelude.{◌≡◌, length};
 
-// Its tables.
+// A line of the script.
+pub fn line() -> [u8; 65536]
+    ensures { 65536 ≡ length result }
+{
+    [0; 65536]
+}
+
+// The machine's tables.
 pub fn words() -> [u64; 11844]
     ensures { 11844 ≡ length result }
 {

@@ -1,5 +1,9 @@
 // The answers that are not yet written.
-ghost use Rattle.std.specs.Prelude.{◌≡◌, ◌+◌, ◌≤◌, length};
+ghost use Rattle.std.specs.Prelude.{◌≡◌, ◌+◌, ◌<◌, ◌≤◌, length, take, true, IfOk, OnOk, OnErr};
+ghost use Rattle.std.specs.Io.KnownBytes.{Appends};
+
+use std::io;
+use std::io::Write;
 
 // How many bytes of answers are not yet written, and whether to go on.
 #[derive(Clone, Copy)]
@@ -21,40 +25,40 @@ impl Output {
 
     // With answers that reach so far.
     pub fn reaching(self, at: usize) -> Output
-        ensures { result.at ≡ at }
+        ensures reaches { result.at ≡ at }
+        ensures goes_on { result.on ≡ self.on }
     {
         Output { at, on: self.on }
     }
 
     // Writes the answers if the longest answer does not fit behind them.
-    pub fn with_room(self, out: &[u8]) -> Output
+    pub fn with_room<W: Write>(self, writer: &mut W, out: &[u8]) -> io::Result<Output>
         requires at_in_bounds { self.at ≤ length out.now }
         requires in_bounds { 4096 ≤ length out.now }
-        ensures { result.at + 4096 ≤ length out.now }
+        ensures room { IfOk result (λ o. o.at + 4096 ≤ length out.now) }
+        ensures goes_on { IfOk result (λ o. o.on ≡ self.on) }
+        ensures by_write { OnErr result ((self.on ≡ true) × (length out.now < self.at + 4096)) }
     {
         if out.len() - self.at < 4096 {
-            self.flushed(out)
+            self.flushed(writer, out)
         } else {
-            self
+            Ok(self)
         }
     }
 
-    // Writes the answers. A write that fails ends the run.
-    pub fn flushed(self, out: &[u8]) -> Output
+    // Writes the answers, unless the run has ended.
+    pub fn flushed<W: Write>(self, writer: &mut W, out: &[u8]) -> io::Result<Output>
         requires { self.at ≤ length out.now }
-        ensures { result.at ≡ 0 }
+        ensures none_left { IfOk result (λ o. o.at ≡ 0) }
+        ensures goes_on { IfOk result (λ o. o.on ≡ self.on) }
+        ensures by_write { OnErr result (self.on ≡ true) }
+        ensures written { OnOk result (self.on ≡ true → Appends (W.contents writer.old) (W.contents writer.new) (take self.at out.now)) }
     {
         let at = self.at;
         if !self.on {
-            return Output { at: 0, on: false };
+            return Ok(Output { at: 0, on: false });
         }
-        if io::write_all(libc::STDOUT_FILENO, &out[..at]) {
-            return Output { at: 0, on: true };
-        }
-        io::write_all(
-            libc::STDERR_FILENO,
-            b"script: standard output cannot be written\n",
-        );
-        Output { at: 0, on: false }
+        writer.write_all(&out[..at])?;
+        Ok(Output { at: 0, on: true })
     }
 }

@@ -1,5 +1,6 @@
 // A run of a script: its manager, its machine, what is read and held of the input, and the answers that are not yet written.
-ghost use Rattle.std.specs.Prelude.{◌≡◌, ℕ, ◌≤◌, length};
+ghost use Rattle.std.specs.Prelude.{◌≡◌, ℕ, ◌≤◌, length, take, true, IfOk, OnErr};
+ghost use Rattle.std.specs.Io.KnownBytes.{Keeps, Consumes};
 ghost use Rattle.script_step.specs.MachineStep.{Lends};
 ghost use Rattle.script.specs.Session.{Kept, Reads};
 
@@ -9,6 +10,8 @@ use call_text::{Asked, LoneCall};
 use script_step::lone::Lone;
 use script_step::machine::{Machine, step};
 use script_step::said::Said;
+use std::io;
+use std::io::{Read, Write};
 use text::Held;
 
 #[derive(Clone, Copy)]
@@ -52,45 +55,45 @@ impl Session {
     }
 
     // Once all input is looked at, writes the answers and reads more.
-    pub fn filled(mut self, input: &mut [u8], out: &[u8]) -> Session
+    pub fn filled<R: Read, W: Write>(
+        mut self,
+        reader: &mut R,
+        input: &mut [u8],
+        writer: &mut W,
+        out: &[u8],
+    ) -> io::Result<Session>
         requires at_in_bounds { self.output.at ≤ length out.now }
         requires reads { Reads self (length input.old) }
-        ensures kept { (line frames files starts : ℕ) → Kept self line (length out.now) frames files starts → Kept result line (length out.now) frames files starts }
-        ensures reads_2 { Reads result (length input.old) }
+        ensures kept { IfOk result (λ s. (line frames files starts : ℕ) → Kept self line (length out.now) frames files starts → Kept s line (length out.now) frames files starts) }
+        ensures reads_2 { IfOk result (λ s. Reads s (length input.old)) }
+        ensures not_read { OnErr result (Keeps (R.remaining reader.old) (R.remaining reader.new)) }
+        ensures by_stream { OnErr result (self.to ≤ self.from) }
     {
         if self.from < self.to {
-            return self;
+            return Ok(self);
         }
         let output = self.output;
-        let output = output.flushed(out);
+        let output = output.flushed(writer, out)?;
         self.output = output;
         if self.last {
             self.output = output.stopped();
-            return self;
+            return Ok(self);
         }
-        self.read(input)
+        self.read(reader, input)
     }
 
     // Reads once. At the end the last line may have no newline; a blank line more says nothing.
-    fn read(mut self, input: &mut [u8]) -> Session
-        ensures kept { (line out frames files starts : ℕ) → Kept self line out frames files starts → Kept result line out frames files starts }
-        ensures reads { Reads result (length input.old) }
+    fn read<R: Read>(mut self, reader: &mut R, input: &mut [u8]) -> io::Result<Session>
+        ensures kept { IfOk result (λ s. (line out frames files starts : ℕ) → Kept self line out frames files starts → Kept s line out frames files starts) }
+        ensures reads { IfOk result (λ s. Reads s (length input.old)) }
+        ensures bytes { IfOk result (λ s. (s.from ≡ 0) × Consumes (R.remaining reader.old) (R.remaining reader.new) (take s.to input.new)) }
+        ensures not_read { OnErr result (Keeps (R.remaining reader.old) (R.remaining reader.new)) }
     {
+        let got = reader.read(input)?;
         self.from = 0;
-        self.to = 0;
-        let got = libc::read(libc::STDIN_FILENO, input);
-        if got < 0 {
-            io::write_all(
-                libc::STDERR_FILENO,
-                b"script: standard input cannot be read\n",
-            );
-            let output = self.output;
-            self.output = output.stopped();
-            return self;
-        }
-        self.to = io::count(got, &input[..]);
+        self.to = got;
         self.last = got == 0;
-        self
+        Ok(self)
     }
 
     // Holds what is read up to the line's end.
@@ -116,26 +119,36 @@ impl Session {
     }
 
     // Runs the line that is held, if it has ended, and puts its answer.
-    pub fn answered(
+    pub fn answered<W: Write>(
         self,
         line: &[u8],
+        writer: &mut W,
         out: &mut [u8],
         words: &mut [u64],
         frames: &mut [u8],
         files: &mut [u8],
         starts: &mut [u64],
-    ) -> Session
+    ) -> io::Result<Session>
         requires { Kept self (length line.now) (length out.old) (length frames.old) (length files.old) (length starts.old) }
-        ensures kept { Kept result (length line.now) (length out.old) (length frames.old) (length files.old) (length starts.old) }
-        ensures by_index { (input : ℕ) → Reads self input → Reads result input }
+        ensures kept { IfOk result (λ s. Kept s (length line.now) (length out.old) (length frames.old) (length files.old) (length starts.old)) }
+        ensures by_index { IfOk result (λ s. (input : ℕ) → Reads self input → Reads s input) }
+        ensures by_write { OnErr result ((self.ended ≡ true) × (self.output.on ≡ true)) }
     {
         if !self.ended {
-            return self;
+            return Ok(self);
         }
         let heard = self.ran(line, words, frames, files, starts);
         let said = heard.said;
         let session = heard.session;
-        session.put(said, line, out, &words[..], &frames[..], &starts[..])
+        session.put(
+            said,
+            line,
+            writer,
+            out,
+            &words[..],
+            &frames[..],
+            &starts[..],
+        )
     }
 
     // Runs the line that is held.
@@ -187,29 +200,32 @@ impl Session {
     }
 
     // Puts what is written of the line, of the machine's memory what it is lent.
-    fn put(
+    fn put<W: Write>(
         mut self,
         said: Said,
         line: &[u8],
+        writer: &mut W,
         out: &mut [u8],
         words: &[u64],
         frames: &[u8],
         starts: &[u64],
-    ) -> Session
+    ) -> io::Result<Session>
         requires at_in_bounds { self.output.at ≤ length out.old }
         requires in_bounds { 4096 ≤ length out.old }
         requires frames_in_bounds { self.machine.frames ≤ length frames.now }
         requires starts_len { length starts.now ≡ 64 }
-        ensures at_in_bounds_2 { result.output.at ≤ length out.old }
-        ensures held_value { (result.held ≡ self.held) × (result.machine ≡ self.machine) }
-        ensures by_index { (input : ℕ) → Reads self input → Reads result input }
+        ensures at_in_bounds_2 { IfOk result (λ s. s.output.at ≤ length out.old) }
+        ensures held_value { IfOk result (λ s. (s.held ≡ self.held) × (s.machine ≡ self.machine)) }
+        ensures by_index { IfOk result (λ s. (input : ℕ) → Reads self input → Reads s input) }
+        ensures by_write { OnErr result (self.output.on ≡ true) }
     {
         let output = self.output;
         let lone = self.lone;
         let machine = self.machine;
         let n = machine.frames;
         let output = put_said(
-            output.with_room(&out[..]),
+            output.with_room(writer, &out[..])?,
+            writer,
             out,
             line,
             self.lines,
@@ -218,8 +234,8 @@ impl Session {
             words,
             &frames[..n],
             starts,
-        );
+        )?;
         self.output = output;
-        self
+        Ok(self)
     }
 }

@@ -2,7 +2,6 @@
 use Rattle.std.specs.Prelude.{◌≡◌, Bool, true, false, cond, List, ℕ, ◌+◌, ◌-◌, ◌*◌, ◌/◌, ◌≤◌, ◌<◌, length, get_or, set, drop, ltb, leb}
 use Rattle.std.proofs.Common.{sym, ap, ◌∙◌, arith, length-drop, length-take-le}
 use borrow.Author.Tests.{le-leb, lt-leb, lt-ltb, le-ltb}
-use Rattle.laws.specs.Rows.{rows}
 use Rattle.laws.specs.RowsLaws.{rows_length, rows_at}
 use Rattle.frames.specs.PutBytes.{put_at}
 use Rattle.text.specs.declared.words.Word.{Word}

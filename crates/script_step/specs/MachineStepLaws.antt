@@ -1,5 +1,5 @@
 -- From what crate `calls` ensures to what the script says of its machine.
-use Rattle.std.specs.Prelude.{◌≡◌, Bool, true, false, cond, List, ◌++◌, ℕ, ◌+◌, ◌-◌, ◌*◌, ◌/◌, ◌≤◌, ◌<◌, length, take, drop, ltb, leb}
+use Rattle.std.specs.Prelude.{◌≡◌, Bool, true, false, cond, List, ◌++◌, ℕ, ◌-◌, ◌*◌, ◌/◌, ◌≤◌, ◌<◌, length, take, drop, ltb, leb}
 use Rattle.std.proofs.Math.Path.{refl}
 use Rattle.std.proofs.Common.{ap, sym, subst, ◌∙◌, true≢false, arith, length-take-le, take_at, drop_at, leb-false, ltb-true, ltb-false}
 use Rattle.answers.specs.declared.Refusal.TheVariants.{BadTable}

@@ -1,8 +1,9 @@
 -- What is put into a buffer stands there, and a number's digits read back as the number.
 use Rattle.std.specs.Prelude.{◌≡◌, ℕ, zero, suc, ◌+◌, ◌-◌, ◌/◌, ◌%◌, ◌^◌, ◌<◌, ◌≤◌, Bool, true, false, ◌&&◌, List, [], ◌∷◌, ◌++◌, length, take, drop, ◌==◌, ◌≢◌, nat_le, nat_lt, refl}
-use Rattle.std.proofs.Common.{sym, ap, ◌∙◌, append_assoc, arith, add-one, length-append, drop-drop, take_at, drop_at, length-take-le}
+use Rattle.std.proofs.Common.{sym, ap, ◌∙◌, append_assoc, append-nil, arith, add-one, length-append, length-drop, drop_of_length-le, take_all, drop-drop, take_at, drop_at, length-take-le}
 use Rattle.std.proofs.lemmas.Bool.{false≢true}
 use Rattle.std.proofs.Math.Nat.{pow-le-pow_right}
+use Rattle.std.proofs.Math.Seq.{take-length}
 use borrow.Author.Tests.{lt-ltb, le-leb, leb-true, leb-false, eqb-true, ne_eqb}
 use Rattle.io.specs.Digits.{hex_digit_ascii, last_digits, IsDigitCount}
 use Rattle.text.specs.declared.number.Number.TheVariants.{Is}
@@ -11,6 +12,19 @@ use Rattle.text.specs.NumeralLaws.{digits_digits, digits_value}
 use Rattle.text.specs.Write.{Put, Spelled}
 
 -- ---- a text at a place
+
+-- as the code puts it: a copy into the part from `at` on
+pub copied : (old : List ℕ) (at : ℕ) (text ys : List ℕ) (n : ℕ) → n ≡ length text
+    → ys ≡ take (length text) text ++ drop (length text) (take (length old - at) (drop at old))
+    → Put old at text (take at old ++ (ys ++ drop (length old - at) (drop at old))) (at + n)
+copied old at text ys n p e = record { next = ap (λ (x : ℕ). at + x) p; whole = ap (λ (x : List ℕ). take at old ++ x) rest }
+  where
+    all : length (drop at old) ≤ length old - at
+    all = omega (arith, length-drop at old)
+
+    rest : ys ++ drop (length old - at) (drop at old) ≡ text ++ drop (at + n) old
+    rest =
+        rw (drop_of_length-le (drop at old) {i = length old - at} all, append-nil ys, e, take_all (length old - at) (drop at old) all, drop-drop (length text) at old, p, take-length text)
 
 module _ (old : List ℕ) (at : ℕ) (text : List ℕ) (fits : at + length text ≤ length old) (new : List ℕ) (r : ℕ) (put : Put old at text new r) where
   front : length (take at old) ≡ at

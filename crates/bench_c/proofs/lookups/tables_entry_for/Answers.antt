@@ -1,0 +1,17 @@
+-- `tables_entry_for` answers what is found, or that nothing is.
+use Rattle.std.proofs.Common.{sym, ap, ◌∙◌}
+use Rattle.bench_c.specs.LookupsOnLaws.{there, no_machine, past_last, answered, unanswered}
+use Rattle.bench_c.specs.LookupsOn.{row_or}
+use Rattle.bench_c.proofs.lookups.tables_entry_for.Goals as goal
+
+pub returns-then-words-ne11844 : goal.returns-then-words-ne11844
+returns-then-words-ne11844 c = unanswered _ _ _ (no_machine 512 _ _ c.if-words-ne11844.true)
+
+pub returns-then-row-ge512 : goal.returns-then-row-ge512
+returns-then-row-ge512 c = unanswered _ _ _ (past_last 512 _ _ c.if-words-ne11844.false c.if-row-ge512.true)
+
+pub returns-in_default : goal.returns-in_default
+returns-in_default c = answered _ _ _ _ (there 512 _ _ c.if-words-ne11844.false c.if-row-ge512.false) (ap (row_or 512) (sym c.in_default.is ∙ c.entry_for.ensures))
+
+pub returns : goal.returns
+returns c = answered _ _ _ _ (there 512 _ _ c.if-words-ne11844.false c.if-row-ge512.false) (ap (row_or 512) (sym c.in-At.is ∙ c.entry_for.ensures))

@@ -1,0 +1,7 @@
+-- `machine_eager`: the call's answer as a number.
+use mathlib.Core.Path.{ap, ◌∙◌}
+use Rattle.model.specs.Answers.{of_done}
+use Rattle.machine_c.proofs.fills.machine_eager.Goals as goal
+
+pub returns : goal.returns
+returns c = record { value = c.tell_done.ensures ∙ ap (λ x. (of_done x).number) c.eager.ensures.value; leaves = c.eager.ensures.leaves }
