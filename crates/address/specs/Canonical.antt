@@ -1,7 +1,7 @@
 -- Which numbers are addresses.
-use Rattle.std.specs.Prelude.{◌≡◌, Bool, ◌||◌, cond, ℕ, ◌-◌, ◌^◌, ◌≤◌, ◌<◌, ltb, leb}
-use Rattle.address.specs.declared.CheckedAddr.{CheckedAddr}
-use Rattle.address.specs.declared.CheckedAddr.TheVariants.{Good, NotCanonical}
+use Rattle.std.specs.Prelude.{◌≡◌, Bool, ◌||◌, cond, ℕ, ◌-◌, ◌^◌, ◌≤◌, ◌<◌, ltb, leb, Result, Ok, Err}
+use Rattle.address.specs.declared.VirtAddr.{VirtAddr}
+use Rattle.address.specs.declared.VirtAddrNotValid.{VirtAddrNotValid}
 use Rattle.address.specs.Bits.{bit}
 
 -- Intel 64 manual, volume 3, chapter 4 "Paging", and volume 1, section 3.3.7.1 "Canonical Addressing":
@@ -17,6 +17,6 @@ canonical a = ltb a (2 ^ 47) || leb (2 ^ 64 - 2 ^ 47) a
 abbrev pub user : ℕ → Bool
 user a = ltb a (2 ^ 47)
 
--- the Rust's VirtAddr::try_new
-unfoldable pub checked_addr : ℕ → CheckedAddr
-checked_addr a = cond (canonical a) (Good (record { 0 = a })) NotCanonical
+-- the Rust's VirtAddr::try_new: the address, or the number that is none
+unfoldable pub checked_addr : ℕ → Result VirtAddr VirtAddrNotValid
+checked_addr a = cond (canonical a) (Ok (record { 0 = a })) (Err (record { 0 = a }))

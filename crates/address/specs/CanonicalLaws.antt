@@ -2,7 +2,9 @@
 use Rattle.std.specs.Prelude.{◌≡◌, ◌⊎◌, Bool, true, false, ℕ, ◌+◌, ◌-◌, ◌/◌, ◌^◌, ◌≤◌, ◌<◌, ltb, leb}
 use Rattle.std.proofs.Common.{ap, sym, subst, ◌∙◌, inl, inr, arith, ltb-true, leb-true, lt-ltb, le-leb, le-ltb}
 use Rattle.std.proofs.Math.Logic.{⊎_elim}
-use Rattle.address.specs.declared.CheckedAddr.TheVariants.{Good, NotCanonical}
+use Rattle.std.specs.Prelude.{Result, Ok, Err}
+use Rattle.address.specs.declared.VirtAddr.{VirtAddr}
+use Rattle.address.specs.declared.VirtAddrNotValid.{VirtAddrNotValid}
 use Rattle.address.specs.Bits.{bit}
 use Rattle.address.specs.BitsLaws.{bit_from, bit_zero, bit_ones, bits_same, bit_cases}
 use Rattle.address.specs.Canonical.{Canonical, canonical, checked_addr}
@@ -61,10 +63,10 @@ module _ (a : ℕ) (fits : a < 2 ^ 64) where
   unfolding canonical
   canonical_else h = answered _ (or_second (ltb a (2 ^ 47)) _ (le-ltb a (2 ^ 47) h))
 
-pub addr_good : (a : ℕ) (b : Bool) → b ≡ canonical a → b ≡ true → Good (record { 0 = a }) ≡ checked_addr a
+pub addr_good : (a : ℕ) (b : Bool) → b ≡ canonical a → b ≡ true → ◌≡◌ {A = Result VirtAddr VirtAddrNotValid} (Ok (record { 0 = a })) (checked_addr a)
 unfolding checked_addr
 addr_good a b e t = rw (sym e, t)
 
-pub addr_bad : (a : ℕ) (b : Bool) → b ≡ canonical a → b ≡ false → NotCanonical ≡ checked_addr a
+pub addr_bad : (a : ℕ) (b : Bool) → b ≡ canonical a → b ≡ false → ◌≡◌ {A = Result VirtAddr VirtAddrNotValid} (Err (record { 0 = a })) (checked_addr a)
 unfolding checked_addr
 addr_bad a b e t = rw (sym e, t)

@@ -1,7 +1,6 @@
 -- The flag bits of a page table entry.
-use Rattle.std.specs.Prelude.{◌≡◌, Bool, ◌&&◌, cond, ℕ, ◌*◌, ◌-◌, ◌/◌, ◌%◌, ◌^◌, eqb, ◌⊎◌}
-use Rattle.address.specs.declared.flags.CheckedFlags.{CheckedFlags}
-use Rattle.address.specs.declared.flags.CheckedFlags.TheVariants.{Good, Bad}
+use Rattle.std.specs.Prelude.{◌≡◌, Bool, ◌&&◌, cond, ℕ, ◌*◌, ◌-◌, ◌/◌, ◌%◌, ◌^◌, eqb, ◌⊎◌, Option, Some, None}
+use Rattle.address.specs.declared.flags.PageTableFlags.{PageTableFlags}
 use Rattle.address.specs.Bits.{bit, has}
 
 -- Intel 64 manual, volume 3, section 4.5, table 4-20 "Format of a Page-Table Entry that Maps a 4-KByte Page":
@@ -31,8 +30,8 @@ unfoldable pub good_flags : ℕ → Bool
 good_flags n = has n present && eqb (n / 2 ^ 3 % 2 ^ 60) 0
 
 -- checked construction of flags
-unfoldable pub checked_flags : ℕ → CheckedFlags
-checked_flags n = cond (good_flags n) (Good (record { 0 = n })) Bad
+unfoldable pub checked_flags : ℕ → Option PageTableFlags
+checked_flags n = cond (good_flags n) (Some (record { 0 = n })) None
 
 -- flags with WRITABLE off (FlagsLaws: without-writable)
 unfoldable pub read_only : ℕ → ℕ

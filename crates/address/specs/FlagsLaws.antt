@@ -1,9 +1,8 @@
 -- Laws of `Flags`: the flag bits of a page table entry.
-use Rattle.std.specs.Prelude.{◌≡◌, ◌⊎◌, Bool, ◌&&◌, false, ℕ, ◌*◌, ◌-◌, ◌/◌, ◌%◌, ◌^◌, zero, suc, ◌+◌, ◌≤◌, ◌<◌, min, eqb}
+use Rattle.std.specs.Prelude.{◌≡◌, ◌⊎◌, Bool, ◌&&◌, false, ℕ, ◌*◌, ◌-◌, ◌/◌, ◌%◌, ◌^◌, zero, suc, ◌+◌, ◌≤◌, ◌<◌, min, eqb, Some, None}
 use Rattle.std.proofs.Math.Path.{refl, subst}
 use Rattle.std.proofs.Common.{ap, sym, ◌∙◌, inl, inr, arith}
 use Rattle.std.proofs.Math.Bool.{true}
-use Rattle.address.specs.declared.flags.CheckedFlags.TheVariants.{Good, Bad}
 use Rattle.address.specs.Bits.{bit, has}
 use Rattle.address.specs.Flags.{Contains, Without, good_flags, checked_flags, read_only, GoodFlags}
 use Rattle.std.specs.Int.Bits.{bit_and, bit_xor, differ}
@@ -125,14 +124,14 @@ module _ (n : ℕ) (fits : n < 2 ^ 64) where
   good_both a b s t =
       tells_same {P = GoodFlags n} (record { yes = λ e. from_both ((tells_both s t).yes e); no = λ e g. (tells_both s t).no e (to_both g) }) (good_flags_tells n fits)
 
-  pub flags_good : (a b : Bool) → Tells a (Contains n 1) → Tells b (Contains all_flags n) → a ≡ true → b ≡ true → Good (record { 0 = n }) ≡ checked_flags n
+  pub flags_good : (a b : Bool) → Tells a (Contains n 1) → Tells b (Contains all_flags n) → a ≡ true → b ≡ true → Some (record { 0 = n }) ≡ checked_flags n
   unfolding checked_flags
   flags_good a b s t p q = rw (sym (good_both a b s t), p, q)
 
-  pub flags_absent : (a : Bool) → Tells a (Contains n 1) → a ≡ false → Bad ≡ checked_flags n
+  pub flags_absent : (a : Bool) → Tells a (Contains n 1) → a ≡ false → None ≡ checked_flags n
   unfolding checked_flags
   flags_absent a s p = rw (sym (good_both a _ s (contains_tells all_flags n fits)), p)
 
-  pub flags_outside : (a b : Bool) → Tells a (Contains n 1) → Tells b (Contains all_flags n) → a ≡ true → b ≡ false → Bad ≡ checked_flags n
+  pub flags_outside : (a b : Bool) → Tells a (Contains n 1) → Tells b (Contains all_flags n) → a ≡ true → b ≡ false → None ≡ checked_flags n
   unfolding checked_flags
   flags_outside a b s t p q = rw (sym (good_both a b s t), p, q)

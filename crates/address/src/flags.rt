@@ -5,15 +5,8 @@ ghost use Rattle.address.specs.Flags.{Contains, Without, checked_flags, read_onl
 ghost use Rattle.laws.specs.Tells.{Tells};
 
 // Flag bits of a page table entry.
-#[derive(Clone, Copy)]
+#[derive(Clone, Copy, Debug, PartialEq, Eq, PartialOrd, Ord)]
 pub struct PageTableFlags(pub u64);
-
-// What a number is as flags.
-#[derive(Clone, Copy)]
-pub enum CheckedFlags {
-    Good(PageTableFlags),
-    Bad,
-}
 
 impl PageTableFlags {
     pub const PRESENT: PageTableFlags = PageTableFlags(1);
@@ -25,18 +18,18 @@ impl PageTableFlags {
     pub const NO_EXECUTE: PageTableFlags = PageTableFlags(0x8000_0000_0000_0000);
 
     // The flags of a number, or the refusal: PRESENT missing, or a bit outside the four.
-    pub fn from_bits(bits: u64) -> CheckedFlags
+    pub fn from_bits(bits: u64) -> Option<PageTableFlags>
         ensures { result ≡ checked_flags bits }
     {
         let flags = PageTableFlags(bits);
         let all = PageTableFlags(0x8000_0000_0000_0007);
         if !flags.contains(PageTableFlags::PRESENT) {
-            return CheckedFlags::Bad;
+            return None;
         }
         if all.contains(flags) {
-            CheckedFlags::Good(flags)
+            Some(flags)
         } else {
-            CheckedFlags::Bad
+            None
         }
     }
 

@@ -8,7 +8,7 @@ ghost use Rattle.laws.specs.Tells.{Tells};
 
 mod flags;
 
-pub use flags::{CheckedFlags, PageTableFlags};
+pub use flags::PageTableFlags;
 
 // The bytes of a page, and of a frame.
 pub const PAGE_SIZE: u64 = 4096;
@@ -20,38 +20,36 @@ pub const USER_END: u64 = 0x8000_0000_0000;
 pub const PAGE_COUNT: u64 = 0x10_0000_0000_0000;
 
 // A byte address, as a process or the kernel names it.
-#[derive(Clone, Copy)]
+#[derive(Clone, Copy, Debug, PartialEq, Eq, PartialOrd, Ord)]
 pub struct VirtAddr(pub u64);
 
 // The number of a page of 4,096 bytes.
-#[derive(Clone, Copy)]
+#[derive(Clone, Copy, Debug, PartialEq, Eq, PartialOrd, Ord)]
 pub struct Page(pub u64);
 
 // A byte's place among the frames.
-#[derive(Clone, Copy)]
+#[derive(Clone, Copy, Debug, PartialEq, Eq, PartialOrd, Ord)]
 pub struct PhysAddr(pub u64);
 
-// The number of a frame of 4,096 bytes.
-#[derive(Clone, Copy)]
+// The number of a frame of 4,096 bytes. As PhysAddr beside VirtAddr, a type of its own beside Page and no generic, as in the x86_64
+// crate: the two are not to be mixed up, and have different methods.
+#[derive(Clone, Copy, Debug, PartialEq, Eq, PartialOrd, Ord)]
 pub struct PhysFrame(pub u64);
 
-// What a number is as an address.
-#[derive(Clone, Copy)]
-pub enum CheckedAddr {
-    Good(VirtAddr),
-    NotCanonical,
-}
+// A number that is no address: its bits 63 to 47 are not all equal.
+#[derive(Clone, Copy, Debug, PartialEq, Eq)]
+pub struct VirtAddrNotValid(pub u64);
 
 impl VirtAddr {
-    // The address, or the refusal where the Rust's VirtAddr::new would panic.
-    pub fn try_new(addr: u64) -> CheckedAddr
+    // The address, or the number itself where the Rust's VirtAddr::new would panic.
+    pub fn try_new(addr: u64) -> Result<VirtAddr, VirtAddrNotValid>
         ensures { result ≡ checked_addr addr }
     {
         let a = VirtAddr(addr);
         if a.is_canonical() {
-            CheckedAddr::Good(a)
+            Ok(a)
         } else {
-            CheckedAddr::NotCanonical
+            Err(VirtAddrNotValid(addr))
         }
     }
 

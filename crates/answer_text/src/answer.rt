@@ -40,21 +40,15 @@ pub fn put_answer(out: &mut [u8], at: usize, answer: Answer) -> usize
 // The row of an answer.
 fn row_of(answer: Answer) -> Row {
     match answer {
-        Answer::Done => row(0, 0, 0, 0, 0),
-        Answer::Yes => row(1, 0, 0, 0, 0),
-        Answer::No => row(2, 0, 0, 0, 0),
-        Answer::Start(start, restarts) => row(3, start, restarts, 0, 0),
-        Answer::Parts(a, b, c, d) => row(4, a, b, c, d),
-        Answer::Hex(n) => row(5, n, 0, 0, 0),
-        Answer::Count(n) => row(6, n, 0, 0, 0),
-        Answer::List(count) => row(6, count, 0, 0, 0),
-        Answer::Refused(why) => row(7, why.number(), why.number(), 0, 0),
+        Answer::Done => Row::new(0, &[]),
+        Answer::Yes => Row::new(1, &[]),
+        Answer::No => Row::new(2, &[]),
+        Answer::Start(start, restarts) => Row::new(3, &[start, restarts]),
+        Answer::Parts(a, b, c, d) => Row::new(4, &[a, b, c, d]),
+        Answer::Hex(n) => Row::new(5, &[n]),
+        Answer::Count(n) | Answer::List(n) => Row::new(6, &[n]),
+        Answer::Refused(why) => Row::new(7, &[why.number(), why.number()]),
     }
-}
-
-fn row(form: u64, a: u64, b: u64, c: u64, d: u64) -> Row {
-    let numbers = [a, b, c, d, 0, 0, 0, 0, 0, 0, 0, 0, 0, 0, 0, 0];
-    Row { form, numbers }
 }
 
 // Puts the start of a list's answer: `ok` and how many there are.

@@ -9,17 +9,12 @@ pub fn put_fault(out: &mut [u8], at: usize, line: &[u8], number: u64, fault: Fau
     requires { at + 160 ≤ length out.old }
     ensures { result ≤ at + 160 }
 {
-    let why = fault.why;
     let name = place_of(b"SZLAPDENFfolBKQ@", fault.what);
-    let numbers = [number, name, 0, 0, 0, 0, 0, 0, 0, 0, 0, 0, 0, 0, 0, 0];
     put_row(
         out,
         at,
         160,
-        Row {
-            form: form_of(why, fault.what),
-            numbers,
-        },
+        Row::new(form_of(fault.why, fault.what), &[number, name]),
         b"?_line_#:_unknown_call_`~`\n ?_line_#:_@_is_missing\n ?_line_#:_@_is_not_a_number:_`~`\n \
         ?_line_#:_@_is_larger_than_2^64_-_1:_`~`\n ?_line_#:_copy_or_cow_is_missing\n ?_line_#:_thread_or_-_is_missing\n \
         ?_line_#:_r_or_w_is_missing\n ?_line_#:_readable_or_unreadable_is_missing\n ?_line_#:_START_or_any_is_missing\n \
@@ -56,24 +51,20 @@ fn form_of(why: Why, what: u8) -> u64 {
 
 // The operands that are one of a few words have forms of their own.
 fn missing_form(what: u8) -> u64 {
-    let place = place_of(b"CTWR@", what);
-    if place < 5 {
-        return 4 + place;
+    match place_of(b"CTWR@", what) {
+        5 => 1,
+        place => 4 + place,
     }
-    1
 }
 
-// The place of an operand's letter in a list of letters; past them if it is none of them.
+// The place of an operand's letter in a list of letters; their number if it is none of them. An `Option` is no plainer: what stands
+// behind the list is the form of a kind of region, or an empty name.
 fn place_of(letters: &[u8], letter: u8) -> u64
     requires { length letters.now ≤ 16 }
     ensures { result ≤ 16 }
 {
-    let mut i = 0;
-    while i < letters.len() {
-        if letters[i] == letter {
-            return i as u64;
-        }
-        i += 1;
-    }
-    i as u64
+    letters
+        .iter()
+        .position(|&listed| listed == letter)
+        .unwrap_or(letters.len()) as u64
 }

@@ -1,75 +1,32 @@
 // The machine's answers as the script writes them.
 ghost use Rattle.std.specs.Prelude.{◌≡◌};
-ghost use Rattle.answer_text.specs.Written.{done_as, opened_as, placed_as, covering_as, loaded_as, counted_as, written_as};
+ghost use Rattle.answer_text.specs.Written.{written_as};
 
 use crate::answer::Answer;
-use model::{Counted, Covering, Done, Loaded, Opened, Placed};
+use model::Counted;
 
+#[tactic(auto, unfolding(crate::specs::Written::written_as))]
 pub fn written_as(answer: model::Answer) -> Answer
     ensures { result ≡ written_as answer }
 {
     match answer {
-        model::Answer::Done(done) => done_as(done),
-        model::Answer::Opened(opened) => opened_as(opened),
-        model::Answer::Placed(placed) => placed_as(placed),
-        model::Answer::Covering(covering) => covering_as(covering),
-        model::Answer::Loaded(loaded) => loaded_as(loaded),
-        model::Answer::Counted(counted) => counted_as(counted),
-    }
-}
-
-fn done_as(done: Done) -> Answer
-    ensures { result ≡ done_as done }
-{
-    match done {
-        Done::Yes => Answer::Done,
-        Done::No(why) => Answer::Refused(why),
-    }
-}
-
-fn opened_as(opened: Opened) -> Answer
-    ensures { result ≡ opened_as opened }
-{
-    match opened {
-        Opened::Process(number) => Answer::Count(number),
-        Opened::No(why) => Answer::Refused(why),
-    }
-}
-
-fn placed_as(placed: Placed) -> Answer
-    ensures { result ≡ placed_as placed }
-{
-    match placed {
-        Placed::At(start) => Answer::Hex(start.0),
-        Placed::No(why) => Answer::Refused(why),
-    }
-}
-
-fn covering_as(covering: Covering) -> Answer
-    ensures { result ≡ covering_as covering }
-{
-    match covering {
-        Covering::Covered => Answer::Yes,
-        Covering::Uncovered => Answer::No,
-        Covering::No(why) => Answer::Refused(why),
-    }
-}
-
-fn loaded_as(loaded: Loaded) -> Answer
-    ensures { result ≡ loaded_as loaded }
-{
-    match loaded {
-        Loaded::Byte(byte) => Answer::Count(byte as u64),
-        Loaded::No(why) => Answer::Refused(why),
-    }
-}
-
-fn counted_as(counted: Counted) -> Answer
-    ensures { result ≡ counted_as counted.done counted.count }
-{
-    let done = counted.done;
-    match done {
-        Done::Yes => Answer::List(counted.count),
-        Done::No(why) => Answer::Refused(why),
+        model::Answer::Done(Ok(())) => Answer::Done,
+        model::Answer::Opened(Ok(number)) => Answer::Count(number),
+        model::Answer::Placed(Ok(start)) => Answer::Hex(start.0),
+        model::Answer::Covering(Ok(true)) => Answer::Yes,
+        model::Answer::Covering(Ok(false)) => Answer::No,
+        model::Answer::Loaded(Ok(byte)) => Answer::Count(byte as u64),
+        model::Answer::Counted(
+            Counted {
+                done: Ok(()),
+                count,
+            },
+        ) => Answer::List(count),
+        model::Answer::Done(Err(why))
+        | model::Answer::Opened(Err(why))
+        | model::Answer::Placed(Err(why))
+        | model::Answer::Covering(Err(why))
+        | model::Answer::Loaded(Err(why))
+        | model::Answer::Counted(Counted { done: Err(why), .. }) => Answer::Refused(why),
     }
 }

@@ -14,31 +14,25 @@ pub fn put_listed(out: &mut [u8], at: usize, answer: Answer, starts: &[u64]) -> 
         return put_answer(out, at, answer);
     };
     let next = put_count(out, at, count);
-    let next = put_hexes(out, next, starts, at_most_64(count));
+    let next = put_hexes(out, next, &starts[..at_most_64(count)]);
     put(out, next, b"\n")
 }
 
 fn at_most_64(n: u64) -> usize
     ensures { result ≤ 64 }
 {
-    if n < 64 {
-        return n as usize;
-    }
-    64
+    n.min(64) as usize
 }
 
-// Puts the first numbers of some, with a blank before each.
-fn put_hexes(out: &mut [u8], at: usize, numbers: &[u64], count: usize) -> usize
-    requires count_bound { count ≤ 64 }
-    requires numbers_len { length numbers.now ≡ 64 }
+// Puts numbers, with a blank before each.
+fn put_hexes(out: &mut [u8], at: usize, numbers: &[u64]) -> usize
+    requires numbers_len { length numbers.now ≤ 64 }
     requires at_in_bounds { at + 1216 ≤ length out.old }
     ensures { result ≤ at + 1216 }
 {
     let mut next = at;
-    let mut i = 0;
-    while i < count {
-        next = put_hex_word(out, next, numbers[i]);
-        i += 1;
+    for &number in numbers {
+        next = put_hex_word(out, next, number);
     }
     next
 }

@@ -5,7 +5,7 @@ ghost use Rattle.std.specs.Prelude.{◌≡◌};
 ghost use Rattle.answers.specs.Number.{number_of};
 
 // Why a call refused. RULES E1 to E22, in their order.
-#[derive(Clone, Copy)]
+#[derive(Clone, Copy, Debug, PartialEq, Eq, PartialOrd, Ord)]
 pub enum Refusal {
     BadTable,
     NoProcess,
@@ -32,7 +32,7 @@ pub enum Refusal {
 }
 
 impl Refusal {
-    // The number of this refusal, 1 to 22 (RULES E).
+    // The number of this refusal, 1 to 22 (RULES E). A match, and no `as u64 + 1`, so that each number stands beside its name.
     pub fn number(self) -> u64
         ensures { result ≡ number_of self }
     {

@@ -1,5 +1,5 @@
 -- On a machine whose pool is right the calls are the model's, and leave such a machine: claim, hold, release, and what the searches find.
-use Rattle.std.specs.Prelude.{◌≡◌, ℕ, zero, suc, ◌+◌, ◌-◌, ◌%◌, ◌^◌, ◌<◌, ◌≤◌, Bool, true, false, cond, not, ◌≢◌, List, [], ◌∷◌, length, get_or, nat_le, nat_lt, slice_index_or, slice_set}
+use Rattle.std.specs.Prelude.{◌≡◌, ℕ, zero, suc, ◌+◌, ◌-◌, ◌%◌, ◌^◌, ◌<◌, ◌≤◌, Bool, true, false, cond, not, ◌≢◌, List, [], ◌∷◌, length, get_or, nat_le, nat_lt, slice_index_or, slice_set, Some, None}
 use Rattle.std.proofs.Math.Path.{refl, ap, subst}
 use Rattle.std.proofs.Common.{sym, ◌∙◌, true≢false, length-take, length-take-le, get_or-take, get_or-set_other}
 use native.Mathlib.Omega.{arith}
@@ -7,16 +7,15 @@ use Rattle.std.proofs.Math.Decide.{ℕ_discrete}
 use Rattle.std.proofs.Math.ListN.{length-set}
 use Rattle.std.proofs.Math.Seq.{get_or-set_same, take-set-lt}
 use borrow.Author.Tests.{ltb-true, ltb-false, leb-true, leb-false, not-true}
+use Rattle.laws.specs.ResultLaws.{none_not_some, some_same}
 use Rattle.laws.specs.TellsLaws.{told, not_told, tells_both}
 use Rattle.model.specs.declared.Backing.{Backing}
-use Rattle.model.specs.declared.Found.TheVariants.{At, Nothing}
 use Rattle.model.specs.Layout.{machine}
 use Rattle.laws.specs.Lists.{keep, up_from}
 use Rattle.laws.specs.TestLaws.{tells_le, tells_lt}
 use Rattle.model.specs.Machine.{Machine, State, no_backing, with_pool}
 use Rattle.model.specs.Backing.{backing_at, in_some, free_frames, pool_of, with_backings, lowest_run, claim, hold, let_go}
 use Rattle.model.specs.Sound.{Sound, free_of}
-use Rattle.model.specs.LookupLaws.{never_found, same_slot}
 use Rattle.backing.specs.BackingSteps.{framed, in_run, lowest_fit, given_back, put_row, claimed, held, released, next_frame, with_next_taken}
 use Rattle.backing.specs.FreeSearchLaws.{All, Run, run_of}
 use Rattle.backing.specs.CoveredLaws.{tells_covers}
@@ -58,14 +57,14 @@ abbrev IsFree : List Backing → ℕ → Type 0
 IsFree l x = (x < length l) × (in_some x 0 l ≡ false)
 
 -- every frame of a run that was found is such a one
-fit_run : (l : List Backing) (n f : ℕ) → lowest_fit l n ≡ At f → Run (IsFree l) f n
+fit_run : (l : List Backing) (n f : ℕ) → lowest_fit l n ≡ Some f → Run (IsFree l) f n
 unfolding lowest_fit free_frames
 fit_run l n f e =
     let free : ℕ → Bool = λ x. not (in_some x 0 l) in
     let all = all_kept (IsFree l) free 0 (length l) (λ x p q. (omega arith, not-true (in_some x 0 l) q)) in
     run_of (IsFree l) n 0 0 (keep free (up_from 0 (length l))) f all (λ x p q. absurd (omega arith)) e
 
-fit_inside : (l : List Backing) (n f : ℕ) → lowest_fit l n ≡ At f → f + n ≤ length l
+fit_inside : (l : List Backing) (n f : ℕ) → lowest_fit l n ≡ Some f → f + n ≤ length l
 fit_inside l n f e =
     let found = fit_run l n f e in
     let some = found.some in
@@ -76,17 +75,17 @@ framed_most : (w : List ℕ) → length (framed (machine w)) ≤ 256
 framed_most w = simp length-take (omega (arith, backings_length w))
 
 -- of any words: a frame that was found has a row
-pub next_low : (w : List ℕ) (f : ℕ) → next_frame (machine w) ≡ At f → f < 256
+pub next_low : (w : List ℕ) (f : ℕ) → next_frame (machine w) ≡ Some f → f < 256
 unfolding next_frame
 next_low w f e = go (nat_lt (machine w).pool.next.0 (length (framed (machine w)))) refl e
   where
-    go : (t : Bool) → nat_lt (machine w).pool.next.0 (length (framed (machine w))) ≡ t → cond t (At (machine w).pool.next.0) Nothing ≡ At f → f < 256
+    go : (t : Bool) → nat_lt (machine w).pool.next.0 (length (framed (machine w))) ≡ t → cond t (Some (machine w).pool.next.0) None ≡ Some f → f < 256
     go true q z =
         let low = ltb-true (machine w).pool.next.0 (length (framed (machine w))) q in
         let most = framed_most w in
-        let same = same_slot z in
+        let same = some_same z in
         omega arith
-    go false q z = absurd (never_found z)
+    go false q z = absurd (none_not_some z)
 
 module _ (m : Machine) (ready : Ready m) where
   pub framed_length : length (framed m) ≡ m.frame_count
@@ -98,7 +97,7 @@ module _ (m : Machine) (ready : Ready m) where
   fit_is n = rw framed_length
 
   -- a run is the lowest that fits (RULES C7): its frames are free
-  pub run_free : (n f : ℕ) → lowest_run m n ≡ At f → FreeRun m f n
+  pub run_free : (n f : ℕ) → lowest_run m n ≡ Some f → FreeRun m f n
   run_free n f e =
       let found = fit_run (framed m) n f (fit_is n ∙ e) in
       let size = framed_length in
@@ -310,26 +309,26 @@ pub record Taken (m : Machine) (f : ℕ) : Type 0 where
   pub leaves : with_next_taken m ≡ claim m f 1
 
 module _ (m : Machine) (ready : Ready m) where
-  pub taken_at : (f : ℕ) → next_frame m ≡ At f → Taken m f
+  pub taken_at : (f : ℕ) → next_frame m ≡ Some f → Taken m f
   unfolding next_frame with_next_taken
   taken_at f e = go (nat_lt m.pool.next.0 (length (framed m))) refl e
     where
       is_next : (x : ℕ) → x ≡ m.pool.next.0 → x < m.frame_count → FreeRun m x 1
       is_next x p h = subst (λ (y : ℕ). FreeRun m y 1) (sym p) (next_free m ready (omega arith))
 
-      go : (t : Bool) → nat_lt m.pool.next.0 (length (framed m)) ≡ t → cond t (At m.pool.next.0) Nothing ≡ At f → Taken m f
+      go : (t : Bool) → nat_lt m.pool.next.0 (length (framed m)) ≡ t → cond t (Some m.pool.next.0) None ≡ Some f → Taken m f
       go true q w =
-          let same = same_slot w in
+          let same = some_same w in
           let size = framed_length m ready in
           let low = ltb-true m.pool.next.0 (length (framed m)) q in
           let run = is_next f (sym same) (omega arith) in
           record { lowest = sym same; run = run; leaves = ap (λ t. cond t (claimed m m.pool.next.0 1) m) q ∙ ap (λ (x : ℕ). claimed m x 1) same ∙ claim_is m ready f 1 run }
-      go false q w = absurd (never_found w)
+      go false q w = absurd (none_not_some w)
 
-  pub taken_none : next_frame m ≡ Nothing → (free_of m ≡ []) × (with_next_taken m ≡ m)
+  pub taken_none : next_frame m ≡ None → (free_of m ≡ []) × (with_next_taken m ≡ m)
   unfolding next_frame with_next_taken
   taken_none e = go (nat_lt m.pool.next.0 (length (framed m))) refl e
     where
-      go : (t : Bool) → nat_lt m.pool.next.0 (length (framed m)) ≡ t → cond t (At m.pool.next.0) Nothing ≡ Nothing → (free_of m ≡ []) × (with_next_taken m ≡ m)
-      go true q w = absurd (never_found (sym w))
+      go : (t : Bool) → nat_lt m.pool.next.0 (length (framed m)) ≡ t → cond t (Some m.pool.next.0) None ≡ None → (free_of m ≡ []) × (with_next_taken m ≡ m)
+      go true q w = absurd (none_not_some (sym w))
       go false q w = let size = framed_length m ready in let high = ltb-false m.pool.next.0 (length (framed m)) q in (next_none m ready (omega arith), ap (λ t. cond t (claimed m m.pool.next.0 1) m) q)

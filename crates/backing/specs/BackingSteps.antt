@@ -1,10 +1,8 @@
 -- What each call leaves, as the code does it: the pool's row changed by the frames that were taken or given back.
-use Rattle.std.specs.Prelude.{ℕ, ◌+◌, ◌-◌, ◌%◌, ◌^◌, Bool, cond, not, ◌&&◌, List, length, take, drop, nat_le, nat_lt, slice_set}
+use Rattle.std.specs.Prelude.{ℕ, ◌+◌, ◌-◌, ◌%◌, ◌^◌, Bool, cond, not, ◌&&◌, List, length, take, drop, nat_le, nat_lt, slice_set, Option, Some, None}
+use Rattle.address.specs.declared.PhysFrame.{PhysFrame}
 use Rattle.model.specs.declared.Backing.{Backing}
 use Rattle.model.specs.declared.Pool.{Pool}
-use Rattle.model.specs.declared.Found.{Found}
-use Rattle.model.specs.declared.Found.TheVariants.{At, Nothing}
-use Rattle.backing.specs.declared.free.FoundFrame.{FoundFrame}
 use Rattle.laws.specs.Lists.{keep, up_from, first}
 use Rattle.model.specs.Machine.{Machine, with_pool}
 use Rattle.model.specs.Backing.{backing_at, in_some, free_frames, run_from}
@@ -22,12 +20,12 @@ unfoldable pub lowest_free : ℕ → List Backing → ℕ
 lowest_free g l = first (length l) (free_above g l)
 
 -- a frame that was found, as its row among the backings
-abbrev pub found_frame : FoundFrame → Found
-found_frame (FoundFrame.At f) = At f.0
-found_frame FoundFrame.Nothing = Nothing
+abbrev pub found_frame : Option PhysFrame → Option ℕ
+found_frame (Some f) = Some f.0
+found_frame None = None
 
 -- the lowest n free frames in a row
-unfoldable pub lowest_fit : List Backing → ℕ → Found
+unfoldable pub lowest_fit : List Backing → ℕ → Option ℕ
 lowest_fit l n = run_from n 0 0 (free_frames (length l) l)
 
 -- whether a frame is one of the n from f on
@@ -52,8 +50,8 @@ unfoldable pub claimed : Machine → ℕ → ℕ → Machine
 claimed m f n = with_pool m (put_row m f n 1) (taken_from m.pool n (lowest_free m.pool.next.0 (take m.frame_count (put_row m f n 1))))
 
 -- the lowest free frame, by the pool
-unfoldable pub next_frame : Machine → Found
-next_frame m = cond (nat_lt m.pool.next.0 (length (framed m))) (At m.pool.next.0) Nothing
+unfoldable pub next_frame : Machine → Option ℕ
+next_frame m = cond (nat_lt m.pool.next.0 (length (framed m))) (Some m.pool.next.0) None
 
 unfoldable pub with_next_taken : Machine → Machine
 with_next_taken m = let one = claimed m m.pool.next.0 1 in cond (nat_lt m.pool.next.0 (length (framed m))) one m

@@ -1,70 +1,36 @@
 -- One lemma for each way through a function: what it was told makes its answer the one that its contract names.
-use Rattle.std.specs.Prelude.{◌≡◌, ℕ, ◌+◌, ◌-◌, ◌%◌, ◌^◌, ◌<◌, ◌≤◌, Bool, true, false, cond, List, [], ◌∷◌, length, take, ◌==◌, ◌≢◌, slice_index_or, refl}
+use Rattle.std.specs.Prelude.{◌≡◌, ℕ, ◌+◌, ◌-◌, ◌%◌, ◌^◌, ◌<◌, ◌≤◌, Bool, true, false, cond, List, [], ◌∷◌, length, take, min, ◌==◌, slice_index_or, refl, Some, None}
 use Rattle.std.proofs.Math.Path.{ap}
-use Rattle.std.proofs.Common.{sym, ◌∙◌, arith, length-take, length-take-le, take_all, get_or-take}
-use borrow.Author.Tests.{lt-ltb, le-ltb, le-leb, lt-leb, eq-eqb, ne_eqb}
+use Rattle.std.proofs.Common.{sym, ◌∙◌, arith, length-take, get_or-take}
+use borrow.Author.Tests.{lt-ltb, le-ltb, le-leb, lt-leb, ne_eqb}
 use Rattle.model.specs.declared.Backing.{Backing}
 use Rattle.model.specs.declared.Pool.{Pool}
-use Rattle.model.specs.declared.Found.TheVariants.{At, Nothing}
 use Rattle.lookup.specs.LookupsLaws.{backings_length}
 use Rattle.model.specs.Layout.{machine}
 use Rattle.model.specs.Machine.{Machine, no_backing, with_pool}
 use Rattle.model.specs.Backing.{backing_at, run_from}
-use Rattle.backing.specs.Pass.{cover}
 use Rattle.backing.specs.BackingSteps.{framed, lowest_free, lowest_fit, taken_from, given_back, put_row, claimed, held, released, next_frame, with_next_taken}
-
--- ---- the pool's row
-
-abbrev pool_row : ℕ → ℕ → Pool
-pool_row free next = record { free = free; next = record { 0 = next } }
-
-pub taken_row : (q : Pool) (n next r : ℕ) → r ≡ q.free - n → pool_row r next ≡ taken_from q n next
-taken_row q n next r e = ap (λ (x : ℕ). pool_row x next) e
-
-module _ (q : Pool) (f n r : ℕ) (sum : r ≡ (q.free + n) % 2 ^ 64) where
-  pub given_lower : f < q.next.0 → pool_row r f ≡ given_back q f n
-  given_lower h = rw (lt-ltb f q.next.0 h) (ap (λ (x : ℕ). pool_row x f) sum)
-
-  pub given_kept : q.next.0 ≤ f → pool_row r q.next.0 ≡ given_back q f n
-  given_kept h = rw (le-ltb f q.next.0 h) (ap (λ (x : ℕ). pool_row x q.next.0) sum)
 
 -- ---- the pass
 
-module _ (k n rest : ℕ) (less : rest ≡ k - 1) where
-  pub cover_own : rest < n → n ≡ cover k n
-  cover_own h = rw (lt-ltb (k - 1) n (omega arith))
-
-  pub cover_rest : n ≤ rest → rest ≡ cover k n
-  cover_rest h = rw (le-ltb (k - 1) n (omega arith)) less
-
-pub start_kept : (start i covered : ℕ) → covered ≡ 0 → start ≡ cond (covered == 0) start (i + 1)
-start_kept start i covered z = rw (eq-eqb covered 0 z)
-
-pub start_past : (start i covered : ℕ) → (covered ≢ 0) → i + 1 ≡ cond (covered == 0) start (i + 1)
-start_past start i covered n = rw (ne_eqb covered 0 n)
-
-module _ (w : List ℕ) (n : ℕ) (read : n ≡ (machine w).frame_count) where
-  pub rows_some : n < 256 → n ≡ length (framed (machine w))
-  rows_some h = let k = backings_length w in read ∙ sym (length-take-le (machine w).frame_count (machine w).backings (omega arith))
-
-  pub rows_all : 256 ≤ n → 256 ≡ length (framed (machine w))
-  rows_all h = let k = backings_length w in sym k ∙ ap length (sym (take_all (machine w).frame_count (machine w).backings (omega arith)))
+pub rows_min : (w : List ℕ) (n : ℕ) → n ≡ (machine w).frame_count → (r : ℕ) → r ≡ min n 256 → r ≡ length (framed (machine w))
+rows_min w n read r e = let k = backings_length w in let t = length-take (machine w).frame_count (machine w).backings in omega (arith, e, read, k, t)
 
 -- row i of the machine's frames
 pub framed_row : (m : Machine) (i : ℕ) (b : Backing) → i < length (framed m) → b ≡ slice_index_or m.backings i no_backing → b ≡ slice_index_or (framed m) i no_backing
 framed_row m i b h e = let few = simp length-take at h in e ∙ sym (get_or-take m.frame_count m.backings i no_backing (omega arith))
 
 -- no run of no frames
-no_fit : (f k : ℕ) (l : List ℕ) → run_from 0 f k l ≡ Nothing
+no_fit : (f k : ℕ) (l : List ℕ) → run_from 0 f k l ≡ None
 unfolding run_from
 no_fit f k [] = refl
 no_fit f k (x ∷ l) = go (x == f + k) (no_fit f (k + 1) l) (no_fit x 1 l)
   where
-    go : (b : Bool) → run_from 0 f (k + 1) l ≡ Nothing → run_from 0 x 1 l ≡ Nothing → cond b (cond (k + 1 == 0) (At f) (run_from 0 f (k + 1) l)) (cond (0 == 1) (At x) (run_from 0 x 1 l)) ≡ Nothing
+    go : (b : Bool) → run_from 0 f (k + 1) l ≡ None → run_from 0 x 1 l ≡ None → cond b (cond (k + 1 == 0) (Some f) (run_from 0 f (k + 1) l)) (cond (0 == 1) (Some x) (run_from 0 x 1 l)) ≡ None
     go true p q = rw (ne_eqb (k + 1) 0 (λ e. omega arith)) p
     go false p q = q
 
-pub fit_none : (l : List Backing) (n : ℕ) → n ≡ 0 → Nothing ≡ lowest_fit l n
+pub fit_none : (l : List Backing) (n : ℕ) → n ≡ 0 → None ≡ lowest_fit l n
 unfolding lowest_fit
 fit_none l n z = rw z (sym (no_fit 0 0 _))
 
@@ -102,13 +68,13 @@ module _ (m : Machine) (q : Pool) (read : q ≡ m.pool) (n : ℕ) (sized : n ≡
   same_next : q.next.0 ≡ m.pool.next.0
   same_next = ap (λ (p : Pool). p.next.0) read
 
-  pub next_taken : q.next.0 < n → (one : Machine) → one ≡ claimed m q.next.0 1 → (At q.next.0 ≡ next_frame m) × (one ≡ with_next_taken m)
+  pub next_taken : q.next.0 < n → (one : Machine) → one ≡ claimed m q.next.0 1 → (Some q.next.0 ≡ next_frame m) × (one ≡ with_next_taken m)
   unfolding next_frame with_next_taken
   next_taken h one e =
       let same = same_next in
       let low = lt-ltb m.pool.next.0 (length (framed m)) (omega arith) in
-      (rw low (ap (λ (x : ℕ). At x) same), rw low (e ∙ ap (λ (x : ℕ). claimed m x 1) same))
+      (rw low (ap (λ (x : ℕ). Some x) same), rw low (e ∙ ap (λ (x : ℕ). claimed m x 1) same))
 
-  pub none_taken : n ≤ q.next.0 → (Nothing ≡ next_frame m) × (m ≡ with_next_taken m)
+  pub none_taken : n ≤ q.next.0 → (None ≡ next_frame m) × (m ≡ with_next_taken m)
   unfolding next_frame with_next_taken
   none_taken h = let same = same_next in let high = le-ltb m.pool.next.0 (length (framed m)) (omega arith) in (rw high, rw high)

@@ -1,18 +1,16 @@
 -- Searches through the rows, for the lowest free frame and the lowest run: what a loop knows at row i, and that a run's frames are free.
-use Rattle.std.specs.Prelude.{◌≡◌, ℕ, suc, ◌+◌, ◌-◌, ◌<◌, ◌≤◌, Bool, true, false, cond, List, [], ◌∷◌, length, drop, ◌==◌, ◌≢◌, nat_lt, slice_index_or, refl}
+use Rattle.std.specs.Prelude.{◌≡◌, ℕ, suc, ◌+◌, ◌-◌, ◌<◌, ◌≤◌, Bool, true, false, cond, List, [], ◌∷◌, length, drop, ◌==◌, ◌≢◌, nat_lt, slice_index_or, refl, Option, Some, None}
 use Rattle.std.proofs.Common.{ap, sym, subst, ◌∙◌}
 use native.Mathlib.Omega.{arith}
 use Rattle.std.proofs.Math.ListN.{length-drop}
 use borrow.Author.Tests.{ltb-true, ltb-false, eqb-true, eqb-false, eq-eqb, ne_eqb}
+use Rattle.laws.specs.ResultLaws.{none_not_some, some_same}
 use Rattle.model.specs.declared.Backing.{Backing}
-use Rattle.model.specs.declared.Found.{Found}
-use Rattle.model.specs.declared.Found.TheVariants.{At, Nothing}
 use Rattle.laws.specs.Lists.{first}
 use Rattle.laws.specs.Loops.{Remains}
 use Rattle.laws.specs.LoopLaws.{loop_found, loop_more, loop_none}
 use Rattle.model.specs.Machine.{no_backing}
 use Rattle.model.specs.Backing.{run_from}
-use Rattle.model.specs.LookupLaws.{never_found, same_slot}
 use Rattle.backing.specs.Pass.{cover}
 use Rattle.backing.specs.PassLaws.{free_from, pass, pass_anew, free_pass}
 use Rattle.backing.specs.FreeRunLaws.{first_above}
@@ -68,9 +66,9 @@ unfolding run_from
 anew n f k s [] h = refl
 anew n f k s (x ∷ l) h = rw (ne_eqb x (f + k) h) (go (x == s + 0) refl (n == 1) refl)
   where
-    go : (a : Bool) → (x == s + 0) ≡ a → (b : Bool) → (n == 1) ≡ b → cond b (At x) (run_from n x 1 l) ≡ cond a (cond (0 + 1 == n) (At s) (run_from n s (0 + 1) l)) (cond b (At x) (run_from n x 1 l))
+    go : (a : Bool) → (x == s + 0) ≡ a → (b : Bool) → (n == 1) ≡ b → cond b (Some x) (run_from n x 1 l) ≡ cond a (cond (0 + 1 == n) (Some s) (run_from n s (0 + 1) l)) (cond b (Some x) (run_from n x 1 l))
     go false e b q = refl
-    go true e true q = let p = eqb-true x (s + 0) e in let r = eqb-true n 1 q in let here : x ≡ s = omega arith in rw (eq-eqb (0 + 1) n (omega arith)) (ap (λ (y : ℕ). At y) here)
+    go true e true q = let p = eqb-true x (s + 0) e in let r = eqb-true n 1 q in let here : x ≡ s = omega arith in rw (eq-eqb (0 + 1) n (omega arith)) (ap (λ (y : ℕ). Some y) here)
     go true e false q = let p = eqb-true x (s + 0) e in let r = eqb-false n 1 q in let here : x ≡ s = omega arith in rw (ne_eqb (0 + 1) n (λ z. r (omega arith))) (ap (λ (y : ℕ). run_from n y 1 l) here)
 
 -- the pass from g on finds no frame before g
@@ -78,7 +76,7 @@ pass_above : (k g d : ℕ) (l : List Backing) → g ≤ d → g ≤ first d (fre
 pass_above k g d l h = rw (pass k g l) (first_above _ d g (length l) h)
 
 -- the lowest run that the rows from i on have, with the free frames from `start` on up to i before them
-abbrev pub run_on : ℕ → ℕ → ℕ → ℕ → List Backing → Found
+abbrev pub run_on : ℕ → ℕ → ℕ → ℕ → List Backing → Option ℕ
 run_on wanted start i k t = run_from wanted start (i - start) (free_from k i t)
 
 abbrev pub Ran : List Backing → ℕ → ℕ → ℕ → ℕ → ℕ → Type 0
@@ -90,7 +88,7 @@ module _ (l : List Backing) (n wanted : ℕ) (sized : n ≡ length l) where
   run_first = (omega arith, (omega arith, rw (free_pass l)))
 
   module _ (start i k : ℕ) (s : Ran l n wanted start i k) where
-    pub run_none : n ≤ i → Nothing ≡ lowest_fit l wanted
+    pub run_none : n ≤ i → None ≡ lowest_fit l wanted
     unfolding run_from free_from
     run_none h = loop_none (run_on wanted start i k) l i (lowest_fit l wanted) s.1.1 (omega arith)
 
@@ -102,8 +100,8 @@ module _ (l : List Backing) (n wanted : ℕ) (sized : n ≡ length l) where
       rest t = free_from c (i + 1) t
 
       -- frame i is free: the run is one longer
-      abbrev longer_by : Bool → List Backing → Found
-      longer_by found t = cond found (At start) (run_from wanted start (up + 1) (rest t))
+      abbrev longer_by : Bool → List Backing → Option ℕ
+      longer_by found t = cond found (Some start) (run_from wanted start (up + 1) (rest t))
 
       free_step : (t : List Backing) → c ≡ 0 → run_on wanted start i k (b ∷ t) ≡ longer_by (up + 1 == wanted) t
       unfolding run_from
@@ -117,15 +115,15 @@ module _ (l : List Backing) (n wanted : ℕ) (sized : n ≡ length l) where
           ap (run_from wanted start up) (row_used i k c b now t z) ∙ anew wanted start up (i + 1) (rest t) (λ e. omega arith)
 
       module _ (t : ℕ) (starts : t ≡ cond (c == 0) start (i + 1)) (some : wanted ≡ 0 → ⊥) where
-        pub run_found : i + 1 - t ≡ wanted → At t ≡ lowest_fit l wanted
+        pub run_found : i + 1 - t ≡ wanted → Some t ≡ lowest_fit l wanted
         run_found e = go (c == 0) refl starts
           where
-            go : (a : Bool) → (c == 0) ≡ a → t ≡ cond a start (i + 1) → At t ≡ lowest_fit l wanted
+            go : (a : Bool) → (c == 0) ≡ a → t ≡ cond a start (i + 1) → Some t ≡ lowest_fit l wanted
             go true q r =
                 let le = s.1.0 in
                 let long = eq-eqb (up + 1) wanted (omega arith) in
-                ap (λ (y : ℕ). At y) r
-                ∙ loop_found (run_on wanted start i k) l i (lowest_fit l wanted) s.1.1 (omega arith) no_backing b read (At start) (λ u. free_step u (eqb-true c 0 q) ∙ ap (λ a. longer_by a u) long)
+                ap (λ (y : ℕ). Some y) r
+                ∙ loop_found (run_on wanted start i k) l i (lowest_fit l wanted) s.1.1 (omega arith) no_backing b read (Some start) (λ u. free_step u (eqb-true c 0 q) ∙ ap (λ a. longer_by a u) long)
             go false q r = absurd (some (omega arith))
 
         pub run_more : (i + 1 - t ≢ wanted) → Ran l n wanted t (i + 1) c
@@ -159,9 +157,9 @@ pub record Run (P : ℕ → Type 0) (f n : ℕ) : Type 0 where
   pub some : 1 ≤ n
   pub each : (x : ℕ) → f ≤ x → x < f + n → P x
 
-pub run_of : (P : ℕ → Type 0) (n f k : ℕ) (l : List ℕ) (r : ℕ) → All P l → ((x : ℕ) → f ≤ x → x < f + k → P x) → run_from n f k l ≡ At r → Run P r n
+pub run_of : (P : ℕ → Type 0) (n f k : ℕ) (l : List ℕ) (r : ℕ) → All P l → ((x : ℕ) → f ≤ x → x < f + k → P x) → run_from n f k l ≡ Some r → Run P r n
 unfolding run_from
-run_of P n f k [] r a h e = absurd (never_found e)
+run_of P n f k [] r a h e = absurd (none_not_some e)
 run_of P n f k (x ∷ l) r a h e = go (x == f + k) refl (k + 1 == n) refl (n == 1) refl e (run_of P n f (k + 1) l r a.1) (run_of P n x 1 l r a.1 alone)
   where
     alone : (y : ℕ) → x ≤ y → y < x + 1 → P y
@@ -174,8 +172,8 @@ run_of P n f k (x ∷ l) r a h e = go (x == f + k) refl (k + 1 == n) refl (n == 
         at true t = h y p (ltb-true y (f + k) t)
         at false t = let z = ltb-false y (f + k) t in let same : x ≡ y = omega arith in subst P same a.0
 
-    go : (s : Bool) → (x == f + k) ≡ s → (t : Bool) → (k + 1 == n) ≡ t → (u : Bool) → (n == 1) ≡ u → cond s (cond t (At f) (run_from n f (k + 1) l)) (cond u (At x) (run_from n x 1 l)) ≡ At r → (((y : ℕ) → f ≤ y → y < f + (k + 1) → P y) → run_from n f (k + 1) l ≡ At r → Run P r n) → (run_from n x 1 l ≡ At r → Run P r n) → Run P r n
-    go true p true q u v w more new = let m = eqb-true (k + 1) n q in let same = same_slot w in record { some = omega arith; each = λ y b c. longer (eqb-true x (f + k) p) y (omega arith) (omega arith) }
+    go : (s : Bool) → (x == f + k) ≡ s → (t : Bool) → (k + 1 == n) ≡ t → (u : Bool) → (n == 1) ≡ u → cond s (cond t (Some f) (run_from n f (k + 1) l)) (cond u (Some x) (run_from n x 1 l)) ≡ Some r → (((y : ℕ) → f ≤ y → y < f + (k + 1) → P y) → run_from n f (k + 1) l ≡ Some r → Run P r n) → (run_from n x 1 l ≡ Some r → Run P r n) → Run P r n
+    go true p true q u v w more new = let m = eqb-true (k + 1) n q in let same = some_same w in record { some = omega arith; each = λ y b c. longer (eqb-true x (f + k) p) y (omega arith) (omega arith) }
     go true p false q u v w more new = more (longer (eqb-true x (f + k) p)) w
-    go false p t q true v w more new = let one = eqb-true n 1 v in let same = same_slot w in record { some = omega arith; each = λ y b c. alone y (omega arith) (omega arith) }
+    go false p t q true v w more new = let one = eqb-true n 1 v in let same = some_same w in record { some = omega arith; each = λ y b c. alone y (omega arith) (omega arith) }
     go false p t q false v w more new = new w

@@ -1,5 +1,5 @@
 // The pool's row by value: frames taken from it, and frames given back.
-ghost use Rattle.std.specs.Prelude.{◌≡◌, ◌-◌};
+ghost use Rattle.std.specs.Prelude.{◌≡◌};
 ghost use Rattle.backing.specs.BackingSteps.{taken_from, given_back};
 
 use address::PhysFrame;
@@ -10,8 +10,8 @@ pub fn taken(pool: Pool, count: u64, next: PhysFrame) -> Pool
     ensures { result ≡ taken_from pool count next.0 }
 {
     Pool {
-        free: fewer(pool.free, count),
-        next: next,
+        free: pool.free.saturating_sub(count),
+        next,
     }
 }
 
@@ -19,26 +19,9 @@ pub fn taken(pool: Pool, count: u64, next: PhysFrame) -> Pool
 pub fn given_back(pool: Pool, frame: PhysFrame, count: u64) -> Pool
     ensures { result ≡ given_back pool frame.0 count }
 {
-    let free = std::num::wrapping_add_u64(pool.free, count);
-    if frame.0 < pool.next.0 {
-        return Pool {
-            free: free,
-            next: frame,
-        };
+    let free = pool.free.wrapping_add(count);
+    if frame < pool.next {
+        return Pool { free, next: frame };
     }
-    let lowest = pool.next;
-    Pool {
-        free: free,
-        next: lowest,
-    }
-}
-
-// a - b, and 0 where b is more.
-pub fn fewer(a: u64, b: u64) -> u64
-    ensures { result ≡ a - b }
-{
-    if a < b {
-        return 0;
-    }
-    a - b
+    Pool { free, ..pool }
 }

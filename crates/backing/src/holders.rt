@@ -3,7 +3,7 @@ ghost use Rattle.std.specs.Prelude.{◌≡◌, ◌<◌, length};
 ghost use Rattle.model.specs.Layout.{word_count, machine};
 ghost use Rattle.backing.specs.BackingSteps.{claimed, held, released, found_frame, next_frame, with_next_taken};
 
-use crate::free::{FoundFrame, frame_rows, lowest_free};
+use crate::free::{frame_rows, lowest_free};
 use crate::lent::{put_given_back, put_taken};
 use address::PhysFrame;
 use model::Backing;
@@ -29,7 +29,7 @@ pub fn claim(words: &mut [u64], frame: PhysFrame, count: u64)
 }
 
 // The lowest free frame, claimed as a backing of its own.
-pub fn take_frame(words: &mut [u64]) -> FoundFrame
+pub fn take_frame(words: &mut [u64]) -> Option<PhysFrame>
     requires { length words.old ≡ word_count }
     ensures result_value { found_frame result ≡ next_frame (machine words.old) }
     ensures words_after { machine words.new ≡ with_next_taken (machine words.old) }
@@ -39,9 +39,9 @@ pub fn take_frame(words: &mut [u64]) -> FoundFrame
     let rows = frame_rows(&words[..]);
     if next.0 < rows as u64 {
         claim(words, next, 1);
-        return FoundFrame::At(next);
+        return Some(next);
     }
-    FoundFrame::Nothing
+    None
 }
 
 // One holder more of the backing at `frame`: the Rust's Arc::clone.
@@ -55,8 +55,8 @@ pub fn hold(words: &mut [u64], frame: PhysFrame)
         words,
         frame.0 as usize,
         Backing {
-            len: b.len,
-            holders: std::num::wrapping_add_u64(b.holders, 1),
+            holders: b.holders.wrapping_add(1),
+            ..b
         },
     );
 }
@@ -73,8 +73,8 @@ pub fn release(words: &mut [u64], frame: PhysFrame)
             words,
             frame.0 as usize,
             Backing {
-                len: b.len,
                 holders: b.holders - 1,
+                ..b
             },
         );
         return;

@@ -1,9 +1,8 @@
 -- Laws of `Loads`: the sum of loaded bytes, on any lent memory.
-use Rattle.std.specs.Prelude.{◌≡◌, ℕ, suc, ◌+◌, ◌%◌, ◌^◌, true, false, List}
+use Rattle.std.specs.Prelude.{◌≡◌, ℕ, suc, ◌+◌, ◌%◌, ◌^◌, true, false, List, Result, Err}
 use Rattle.std.proofs.Math.Path.{ap}
 use Rattle.std.proofs.Common.{◌∙◌, arith}
-use Rattle.model.specs.declared.Loaded.{Loaded}
-use Rattle.model.specs.declared.Loaded.TheVariants.{No}
+use Rattle.answers.specs.declared.Refusal.{Refusal}
 use Rattle.model.specs.Calls.{load}
 use Rattle.rows.specs.LentMemory.{OnFrames}
 use Rattle.soundness.specs.SoundLent.{sound_lent}
@@ -27,5 +26,5 @@ module _ (words frames files : List ℕ) (process addr times : ℕ) where
   loaded e s i p q = rw e (q ∙ ap (sum_of (byte_at words frames files process addr)) p)
 
   -- what the core loads is what the call answers
-  pub byte_at_is : sound_lent words frames files ≡ true → (i at b : ℕ) (x : Loaded) → at ≡ (addr + i) % 2 ^ 64 → OnFrames (λ s. load s process at) words frames x → b ≡ byte_or0 x → b ≡ byte_at words frames files process addr i
-  byte_at_is told i at b x p on q = q ∙ ap byte_or0 (looked_at words frames files told No (λ s. load s process at) x on) ∙ ap (λ y. byte_or0 (answer_on No (λ s. load s process y) words frames files)) p
+  pub byte_at_is : sound_lent words frames files ≡ true → (i at b : ℕ) (x : Result ℕ Refusal) → at ≡ (addr + i) % 2 ^ 64 → OnFrames (λ s. load s process at) words frames x → b ≡ byte_or0 x → b ≡ byte_at words frames files process addr i
+  byte_at_is told i at b x p on q = q ∙ ap byte_or0 (looked_at words frames files told Err (λ s. load s process at) x on) ∙ ap (λ y. byte_or0 (answer_on Err (λ s. load s process y) words frames files)) p

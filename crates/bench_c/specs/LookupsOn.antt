@@ -1,9 +1,6 @@
 -- Lent words that are a machine's, and answers as numbers where they are not.
-use Rattle.std.specs.Prelude.{◌≡◌, ℕ, Bool, true, false, cond, ◌&&◌, List, length, ◌==◌, nat_lt}
-use Rattle.model.specs.declared.Found.{Found}
-use Rattle.model.specs.declared.Found.TheVariants.{At, Nothing}
-use Rattle.model.specs.declared.Translated.{Translated}
-use Rattle.model.specs.declared.Translated.TheVariants.{Mapped, NotMapped}
+use Rattle.std.specs.Prelude.{◌≡◌, ℕ, Bool, true, false, cond, ◌&&◌, List, length, ◌==◌, nat_lt, Option, Some, None}
+use Rattle.model.specs.declared.Mapping.{Mapping}
 use Rattle.model.specs.Machine.{Machine}
 use Rattle.model.specs.Layout.{word_count, machine}
 
@@ -21,17 +18,17 @@ row_there = there_below 512
 unfoldable pub answer_if : Bool → ℕ → ℕ → ℕ
 answer_if b x d = cond b x d
 
-abbrev pub row_or : ℕ → Found → ℕ
-row_or d (At i) = i
-row_or d Nothing = d
+abbrev pub row_or : ℕ → Option ℕ → ℕ
+row_or d (Some i) = i
+row_or d None = d
 
-abbrev pub frame_or : ℕ → Translated → ℕ
-frame_or d (Mapped x) = x.frame.0
-frame_or d NotMapped = d
+abbrev pub frame_or : ℕ → Option Mapping → ℕ
+frame_or d (Some x) = x.frame.0
+frame_or d None = d
 
-abbrev pub mapped_one : Translated → ℕ
-mapped_one (Mapped x) = 1
-mapped_one NotMapped = 0
+abbrev pub mapped_one : Option Mapping → ℕ
+mapped_one (Some x) = 1
+mapped_one None = 0
 
 -- the machine that is left, or words left as they were
 pub record Left (there : Bool) (words words' : List ℕ) (m : Machine) : Type 0 where

@@ -5,7 +5,7 @@ ghost use Rattle.bench_c.specs.Loads.{byte_or0, loads_on};
 
 use access::load_core;
 use address::VirtAddr;
-use model::Loaded;
+use answers::Refusal;
 use soundness::is_sound;
 
 // The sum of the bytes that a process loads from `addr` on, of as many addresses as `times`; a refused load counts 0.
@@ -24,21 +24,19 @@ pub extern "C" fn cores_loads(
         return 0;
     }
     let mut sum = 0;
-    let mut i = 0;
-    while i < times {
+    for i in 0..times {
         let at = std::num::wrapping_add_u64(addr, i);
         let byte = byte_or_0(load_core(words, frames, process, VirtAddr(at)));
         sum = std::num::wrapping_add_u64(sum, byte);
-        i += 1;
     }
     sum
 }
 
-fn byte_or_0(answer: Loaded) -> u64
+fn byte_or_0(answer: Result<u8, Refusal>) -> u64
     ensures { result ≡ byte_or0 answer }
 {
     match answer {
-        Loaded::Byte(byte) => byte as u64,
-        Loaded::No(_) => 0,
+        Ok(byte) => byte as u64,
+        Err(_) => 0,
     }
 }

@@ -15,7 +15,7 @@ ghost use Rattle.bench_c.specs.LookupsOn.{process_there, row_there, answer_if, r
 use address::{Page, PageTableFlags, PhysFrame, VirtAddr};
 use lookup::attached::region_for;
 use lookup::search::entry_for;
-use model::{Found, Mapping, Translated};
+use model::Mapping;
 use regions::cover::covers;
 
 // The slot of the attached region at an address, 64 where there is none.
@@ -29,7 +29,7 @@ pub extern "C" fn tables_region_for(words: &[u64], process: usize, addr: u64) ->
     if process >= 8 {
         return 64;
     }
-    let Found::At(slot) = region_for(words, process, VirtAddr(addr)) else {
+    let Some(slot) = region_for(words, process, VirtAddr(addr)) else {
         return 64;
     };
     slot
@@ -63,7 +63,7 @@ pub extern "C" fn tables_entry_for(words: &[u64], row: u64, page: u64) -> usize
     if row >= 512 {
         return 512;
     }
-    let Found::At(i) = entry_for(words, row, Page(page)) else {
+    let Some(i) = entry_for(words, row, Page(page)) else {
         return 512;
     };
     i
@@ -80,7 +80,7 @@ pub extern "C" fn paging_translate(words: &[u64], process: usize, page: u64) -> 
     if process >= 8 {
         return 0xffff_ffff_ffff_ffff;
     }
-    let Translated::Mapped(row) = paging::search::translate(words, process, Page(page)) else {
+    let Some(row) = paging::search::translate(words, process, Page(page)) else {
         return 0xffff_ffff_ffff_ffff;
     };
     row.frame.0
@@ -127,7 +127,7 @@ pub extern "C" fn paging_unmap(words: &mut [u64], process: usize, page: u64) -> 
     if process >= 8 {
         return 0;
     }
-    let Translated::Mapped(_) = paging::mapper::unmap(words, process, Page(page)) else {
+    let Some(_) = paging::mapper::unmap(words, process, Page(page)) else {
         return 0;
     };
     1

@@ -2,8 +2,9 @@
 // example `cores` links it, to time a call's core without the test.
 ghost use Rattle.std.specs.Prelude.{◌+◌, ◌≤◌, length};
 
-use call_words::{Numbered, call_of};
-use model::{Answer, Done, SLOTS};
+use answers::Refusal;
+use call_words::call_of;
+use model::{Answer, Call, SLOTS};
 use soundness::is_sound;
 use step::step;
 
@@ -29,7 +30,7 @@ pub extern "C" fn bench_steps(
     let mut granted = 0;
     let mut at = 0;
     while CALL_WORDS <= calls.len() - at {
-        let Numbered::Is(asked) = call_at(calls, at) else {
+        let Some(asked) = call_at(calls, at) else {
             return granted;
         };
         let answer = step(words, frames, files, starts, asked);
@@ -40,7 +41,7 @@ pub extern "C" fn bench_steps(
 }
 
 // The call in the words from a place on.
-fn call_at(calls: &[u64], at: usize) -> Numbered
+fn call_at(calls: &[u64], at: usize) -> Option<Call>
     requires { at + 11 ≤ length calls.now }
 {
     let args = [
@@ -73,9 +74,9 @@ fn one_if_granted(answer: Answer) -> u64 {
     }
 }
 
-fn one_if_done(done: Done) -> u64 {
+fn one_if_done(done: Result<(), Refusal>) -> u64 {
     match done {
-        Done::Yes => 1,
-        Done::No(_) => 0,
+        Ok(()) => 1,
+        Err(_) => 0,
     }
 }

@@ -1,12 +1,11 @@
 -- Which call words name: its number, then exactly its arguments (RULES D1).
-use Rattle.std.specs.Prelude.{Bool, false, cond, List, [], ◌∷◌, ℕ, eqb, length}
+use Rattle.std.specs.Prelude.{Bool, false, cond, List, [], ◌∷◌, ℕ, eqb, length, Option, None}
+use Rattle.model.specs.declared.Call.{Call}
 use Rattle.laws.specs.Lists.{pad}
-use Rattle.call_words.specs.declared.Numbered.{Numbered}
-use Rattle.call_words.specs.declared.Numbered.TheVariants.{None}
 use Rattle.call_words.specs.CallOf.{call_of, count_of}
 
 -- the call that words name
-unfoldable pub call_in : List ℕ → Numbered
+unfoldable pub call_in : List ℕ → Option Call
 call_in [] = None
 call_in (n ∷ args) = cond (eqb (length args) (count_of n)) (call_of n (pad 10 0 args)) None
 

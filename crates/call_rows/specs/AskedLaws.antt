@@ -1,12 +1,10 @@
 -- Laws of `Asked`: the ways to the call that words name.
-use Rattle.std.specs.Prelude.{◌≡◌, refl, Bool, true, false, cond, List, [], ◌∷◌, ℕ, zero, suc, ◌+◌, ◌-◌, ◌≤◌, ◌<◌, eqb, leb, length, get_or, set, take, drop, replicate}
-use Rattle.std.proofs.Common.{sym, ap, ◌∙◌, zero-le, arith, add-one, take_all, eqb-true, eq-eqb, ne_eqb, leb-true}
+use Rattle.std.specs.Prelude.{◌≡◌, refl, Bool, true, false, cond, List, [], ◌∷◌, ℕ, zero, suc, ◌-◌, ◌≤◌, eqb, leb, length, get_or, drop, Option, None}
+use Rattle.std.proofs.Common.{ap, ◌∙◌, zero-le, arith, eqb-true, eq-eqb, ne_eqb, leb-true}
 use Rattle.std.proofs.lemmas.Bool.{false≢true}
+use Rattle.model.specs.declared.Call.{Call}
 use Rattle.laws.specs.BoolLaws.{both_true}
 use Rattle.laws.specs.Lists.{pad, all}
-use Rattle.laws.specs.ListsLaws.{pad_more}
-use Rattle.call_words.specs.declared.Numbered.{Numbered}
-use Rattle.call_words.specs.declared.Numbered.TheVariants.{None}
 use Rattle.call_words.specs.CallOf as words
 use Rattle.call_words.specs.CallOf.{call_of, count_of}
 use Rattle.call_rows.specs.Asked.{call_in, starts_with}
@@ -46,7 +44,7 @@ in_other (x ∷ l) h k =
     let other : length l ≡ count_of x → ⊥ = λ e. k ((let z : length (x ∷ l) - 1 ≡ length l = omega arith in z) ∙ e) in
     rw (ne_eqb (length l) (count_of x) other) refl
 
-pub in_call : (l : List ℕ) → (length l ≡ 0 → ⊥) → length l - 1 ≡ count_of (get_or l 0 0) → (args : List ℕ) (r : Numbered) → args ≡ pad 10 0 (behind l) → r ≡ call_of (get_or l 0 0) args → r ≡ call_in l
+pub in_call : (l : List ℕ) → (length l ≡ 0 → ⊥) → length l - 1 ≡ count_of (get_or l 0 0) → (args : List ℕ) (r : Option Call) → args ≡ pad 10 0 (behind l) → r ≡ call_of (get_or l 0 0) args → r ≡ call_in l
 unfolding call_in
 in_call [] h e args r p q = absurd (h refl)
 in_call (x ∷ l) h e args r p q =
@@ -67,27 +65,11 @@ pub few : (l : List ℕ) (n : ℕ) → (length l ≡ 0 → ⊥) → length l - 1
 few [] n h e = absurd (h refl)
 few (x ∷ l) n h e = let t : count_of n ≤ 10 = ten n in rw (behind_all x l) (omega arith)
 
--- so many arguments put into ten zeros
-abbrev pub Puts : List ℕ → ℕ → List ℕ → Type 0
-Puts given i args = (args ≡ pad 10 0 (take i given)) × (i ≤ length given)
-
-module _ (given : List ℕ) where
-  pub puts_none : Puts given 0 (replicate 10 0)
-  unfolding pad
-  puts_none = (refl, zero-le)
-
-  module _ (i : ℕ) (args : List ℕ) (p : Puts given i args) where
-    pub puts_more : length given ≤ 10 → i < length given → Puts given (i + 1) (set args i (get_or given i 0))
-    puts_more k h = (ap (λ (t : List ℕ). set t i (get_or given i 0)) p.0 ∙ (pad_more 10 0 given i h (omega arith) ∙ ap (λ (n : ℕ). pad 10 0 (take n given)) (sym (add-one i))), omega arith)
-
-    pub puts_all : length given ≤ i → args ≡ pad 10 0 given
-    puts_all h = p.0 ∙ ap (λ (t : List ℕ). pad 10 0 t) (take_all i given h)
-
 -- start is no call of the numbering
 pub starts_no_call : (rows : List ℕ) → call_in (0 ∷ rows) ≡ None
 unfolding call_in call_of
 starts_no_call rows = pick (eqb (length rows) (count_of 0))
   where
-    pick : (t : Bool) → cond t None None ≡ None
+    pick : (t : Bool) → ◌≡◌ {A = Option Call} (cond t None None) None
     pick true = refl
     pick false = refl

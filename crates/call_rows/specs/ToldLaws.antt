@@ -1,18 +1,13 @@
 -- Laws of `Told`: an answer's first value, and the words of a whole answer.
-use Rattle.std.specs.Prelude.{◌≡◌, refl, false, ℕ, zero, suc, length, get_or, take, drop, replicate}
+use Rattle.std.specs.Prelude.{◌≡◌, refl, false, ℕ, zero, suc, length, get_or, take, drop, replicate, Result, Ok, Err, ⊤, true}
 use Rattle.std.proofs.Common.{sym, ◌∙◌, arith, length-take-le}
 use Rattle.std.proofs.Math.Path.{ap}
 use mathlib.Core.List.{List, [], ◌∷◌, ◌++◌}
 use Rattle.std.proofs.Math.ListN.{set}
+use Rattle.answers.specs.declared.Refusal.{Refusal}
 use Rattle.laws.specs.Lists.{pad}
 use Rattle.model.specs.declared.Answer.{Answer}
 use Rattle.model.specs.declared.Answer.TheVariants as says
-use Rattle.model.specs.declared.Done.{Done}
-use Rattle.model.specs.declared.Done.TheVariants.{Yes, No}
-use Rattle.model.specs.declared.Opened.TheVariants as opened
-use Rattle.model.specs.declared.Placed.TheVariants as placed
-use Rattle.model.specs.declared.Covering.TheVariants as covering
-use Rattle.model.specs.declared.Loaded.TheVariants as loaded
 use Rattle.model.specs.Meant.{reply, counts}
 use Rattle.call_rows.specs.Told.{first_value}
 
@@ -33,10 +28,10 @@ one_first (x ∷ y ∷ l) out e h = absurd (omega arith)
 one_first (x ∷ []) [] e h = let z : ◌≡◌ {A = ℕ} 0 65 = h in absurd (omega arith)
 one_first (x ∷ []) (y ∷ l) e h = refl
 
-pub done_first : (r : Done) → 0 ≡ first_value (says.Done r)
+pub done_first : (r : Result ⊤ Refusal) → 0 ≡ first_value (says.Done r)
 unfolding first_value reply
-done_first Yes = refl
-done_first (No why) = refl
+done_first (Ok tt) = refl
+done_first (Err why) = refl
 
 module _ (x y : Answer) (same : x ≡ y) (n : ℕ) (number : n ≡ (reply y []).number) (out : List ℕ) where
   -- written by the call's own teller, lent the first word
@@ -62,17 +57,17 @@ pad_full (x ∷ l) (suc n) e = ap (λ (t : List ℕ). x ∷ t) (pad_full l n (om
 -- the first value, then zeros or the starts
 pub told_list : (x : Answer) (l : List ℕ) → length l ≡ 64 → (counts x ≡ false → l ≡ replicate 64 0) → first_value x ∷ l ≡ pad 65 0 (reply x l).values
 unfolding first_value reply counts pad
-told_list (says.Done Yes) l h z = ap (λ (t : List ℕ). 0 ∷ t) (z refl)
-told_list (says.Done (No why)) l h z = ap (λ (t : List ℕ). 0 ∷ t) (z refl)
-told_list (says.Opened (opened.Process p)) l h z = ap (λ (t : List ℕ). p ∷ t) (z refl)
-told_list (says.Opened (opened.No why)) l h z = ap (λ (t : List ℕ). 0 ∷ t) (z refl)
-told_list (says.Placed (placed.At a)) l h z = ap (λ (t : List ℕ). a.0 ∷ t) (z refl)
-told_list (says.Placed (placed.No why)) l h z = ap (λ (t : List ℕ). 0 ∷ t) (z refl)
-told_list (says.Covering covering.Covered) l h z = ap (λ (t : List ℕ). 1 ∷ t) (z refl)
-told_list (says.Covering covering.Uncovered) l h z = ap (λ (t : List ℕ). 0 ∷ t) (z refl)
-told_list (says.Covering (covering.No why)) l h z = ap (λ (t : List ℕ). 0 ∷ t) (z refl)
-told_list (says.Loaded (loaded.Byte b)) l h z = ap (λ (t : List ℕ). b ∷ t) (z refl)
-told_list (says.Loaded (loaded.No why)) l h z = ap (λ (t : List ℕ). 0 ∷ t) (z refl)
+told_list (says.Done (Ok tt)) l h z = ap (λ (t : List ℕ). 0 ∷ t) (z refl)
+told_list (says.Done (Err why)) l h z = ap (λ (t : List ℕ). 0 ∷ t) (z refl)
+told_list (says.Opened (Ok p)) l h z = ap (λ (t : List ℕ). p ∷ t) (z refl)
+told_list (says.Opened (Err why)) l h z = ap (λ (t : List ℕ). 0 ∷ t) (z refl)
+told_list (says.Placed (Ok a)) l h z = ap (λ (t : List ℕ). a.0 ∷ t) (z refl)
+told_list (says.Placed (Err why)) l h z = ap (λ (t : List ℕ). 0 ∷ t) (z refl)
+told_list (says.Covering (Ok true)) l h z = ap (λ (t : List ℕ). 1 ∷ t) (z refl)
+told_list (says.Covering (Ok false)) l h z = ap (λ (t : List ℕ). 0 ∷ t) (z refl)
+told_list (says.Covering (Err why)) l h z = ap (λ (t : List ℕ). 0 ∷ t) (z refl)
+told_list (says.Loaded (Ok b)) l h z = ap (λ (t : List ℕ). b ∷ t) (z refl)
+told_list (says.Loaded (Err why)) l h z = ap (λ (t : List ℕ). 0 ∷ t) (z refl)
 told_list (says.Counted r) l h z = ap (λ (t : List ℕ). r.count ∷ t) (sym (pad_full l 64 h))
 
 pub number_alone : (x : Answer) (l : List ℕ) → (reply x []).number ≡ (reply x l).number

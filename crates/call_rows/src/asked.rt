@@ -3,7 +3,8 @@ ghost use Rattle.std.specs.Prelude.{◌≡◌, ◌≤◌, length};
 ghost use Rattle.laws.specs.Lists.{pad};
 ghost use Rattle.call_rows.specs.Asked.{call_in, starts_with};
 
-use call_words::{Numbered, argument_count, call_of};
+use call_words::{argument_count, call_of};
+use model::Call;
 
 // Whether words begin with the number of start.
 pub fn is_start(call: &[u64]) -> bool
@@ -16,15 +17,15 @@ pub fn is_start(call: &[u64]) -> bool
 }
 
 // The call that words name.
-pub fn call_in(call: &[u64]) -> Numbered
+pub fn call_in(call: &[u64]) -> Option<Call>
     ensures { result ≡ call_in call.now }
 {
     if call.len() == 0 {
-        return Numbered::None;
+        return None;
     }
     let number = call[0];
     if call.len() - 1 != argument_count(number) {
-        return Numbered::None;
+        return None;
     }
     call_of(number, arguments(&call[1..]))
 }
@@ -35,10 +36,6 @@ fn arguments(given: &[u64]) -> [u64; 10]
     ensures { result ≡ pad 10 0 given.now }
 {
     let mut args = [0; 10];
-    let mut i = 0;
-    while i < given.len() {
-        args[i] = given[i];
-        i += 1;
-    }
+    args[..given.len()].copy_from_slice(given);
     args
 }

@@ -1,90 +1,110 @@
 // Answers as numbers and values (RULES E, O1).
-ghost use Rattle.std.specs.Prelude.{◌≡◌, [], length, set};
+ghost use Rattle.std.specs.Prelude.{◌≡◌, [], ℕ, cond, length, set};
 ghost use Rattle.model.specs.Answers.{of_done, of_opened, of_placed, of_covering, of_loaded};
 ghost use Rattle.model.specs.Meant.{reply};
-ghost use Rattle.call_rows.specs.Told.{first_value};
+ghost use Rattle.call_rows.specs.Told.{of_value, first_value};
 
-use model::{Answer, Counted, Covering, Done, Loaded, Opened, Placed};
+use address::VirtAddr;
+use answers::Refusal;
+use model::{Answer, Counted};
 
-pub fn tell_done(answer: Done) -> u64
-    ensures { result ≡ (of_done answer).number }
-{
-    match answer {
-        Done::Yes => 0,
-        Done::No(refusal) => refusal.number(),
+// What one word tells.
+trait Told {
+    ghost word: { Self → ℕ };
+
+    fn word(self) -> u64
+        ensures { result ≡ word self };
+}
+
+impl Told for u64 {
+    ghost word = { λ n. n };
+
+    fn word(self) -> u64 {
+        self
     }
 }
 
-pub fn tell_opened(answer: Opened, out: &mut [u64]) -> u64
+impl Told for VirtAddr {
+    ghost word = { λ addr. addr.0 };
+
+    fn word(self) -> u64 {
+        self.0
+    }
+}
+
+impl Told for bool {
+    ghost word = { λ b. cond b 1 0 };
+
+    fn word(self) -> u64 {
+        self as u64
+    }
+}
+
+impl Told for u8 {
+    ghost word = { λ n. n };
+
+    fn word(self) -> u64 {
+        self as u64
+    }
+}
+
+pub fn tell_done(answer: Result<(), Refusal>) -> u64
+    ensures { result ≡ (of_done answer).number }
+{
+    match answer {
+        Ok(()) => 0,
+        Err(refusal) => refusal.number(),
+    }
+}
+
+// An answer with a value: its word, or 0 in its place.
+fn tell_value<T: Told>(answer: Result<T, Refusal>, out: &mut [u64]) -> u64
+    requires { length out.old ≡ 1 }
+    ensures value { result ≡ (of_value T.word answer).number }
+    ensures out_after { out.new ≡ (of_value T.word answer).values }
+{
+    match answer {
+        Ok(value) => {
+            out[0] = value.word();
+            0
+        }
+        Err(refusal) => {
+            out[0] = 0;
+            refusal.number()
+        }
+    }
+}
+
+pub fn tell_opened(answer: Result<u64, Refusal>, out: &mut [u64]) -> u64
     requires { length out.old ≡ 1 }
     ensures value { result ≡ (of_opened answer).number }
     ensures out_after { out.new ≡ (of_opened answer).values }
 {
-    match answer {
-        Opened::Process(p) => {
-            out[0] = p;
-            return 0;
-        }
-        Opened::No(refusal) => {
-            out[0] = 0;
-            return refusal.number();
-        }
-    }
+    tell_value(answer, out)
 }
 
-pub fn tell_placed(answer: Placed, out: &mut [u64]) -> u64
+pub fn tell_placed(answer: Result<VirtAddr, Refusal>, out: &mut [u64]) -> u64
     requires { length out.old ≡ 1 }
     ensures value { result ≡ (of_placed answer).number }
     ensures out_after { out.new ≡ (of_placed answer).values }
 {
-    match answer {
-        Placed::At(start) => {
-            out[0] = start.0;
-            return 0;
-        }
-        Placed::No(refusal) => {
-            out[0] = 0;
-            return refusal.number();
-        }
-    }
+    tell_value(answer, out)
 }
 
-pub fn tell_covering(answer: Covering, out: &mut [u64]) -> u64
+pub fn tell_covering(answer: Result<bool, Refusal>, out: &mut [u64]) -> u64
     requires { length out.old ≡ 1 }
     ensures value { result ≡ (of_covering answer).number }
     ensures out_after { out.new ≡ (of_covering answer).values }
 {
-    match answer {
-        Covering::Covered => {
-            out[0] = 1;
-            return 0;
-        }
-        Covering::Uncovered => {
-            out[0] = 0;
-            return 0;
-        }
-        Covering::No(refusal) => {
-            out[0] = 0;
-            return refusal.number();
-        }
-    }
+    tell_value(answer, out)
 }
 
-pub fn tell_loaded(answer: Loaded, out: &mut [u64]) -> u64
+pub fn tell_loaded(answer: Result<u8, Refusal>, out: &mut [u64]) -> u64
     requires { length out.old ≡ 1 }
     ensures value { result ≡ (of_loaded answer).number }
     ensures out_after { out.new ≡ (of_loaded answer).values }
 {
-    match answer {
-        Loaded::Byte(byte) => {
-            out[0] = byte as u64;
-            return 0;
-        }
-        Loaded::No(refusal) => {
-            out[0] = 0;
-            return refusal.number();
-        }
-    }
+    tell_value(answer, out)
 }
 
 // The count of starts that stand behind it.
@@ -107,12 +127,12 @@ pub fn tell_answer(answer: Answer, out: &mut [u64]) -> u64
     match answer {
         Answer::Done(done) => {
             out[0] = 0;
-            return tell_done(done);
+            tell_done(done)
         }
-        Answer::Opened(opened) => return tell_opened(opened, &mut out[..1]),
-        Answer::Placed(placed) => return tell_placed(placed, &mut out[..1]),
-        Answer::Covering(covering) => return tell_covering(covering, &mut out[..1]),
-        Answer::Loaded(loaded) => return tell_loaded(loaded, &mut out[..1]),
-        Answer::Counted(counted) => return tell_counted(counted, out),
+        Answer::Opened(opened) => tell_opened(opened, &mut out[..1]),
+        Answer::Placed(placed) => tell_placed(placed, &mut out[..1]),
+        Answer::Covering(covering) => tell_covering(covering, &mut out[..1]),
+        Answer::Loaded(loaded) => tell_loaded(loaded, &mut out[..1]),
+        Answer::Counted(counted) => tell_counted(counted, out),
     }
 }

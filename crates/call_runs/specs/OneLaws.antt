@@ -1,5 +1,5 @@
 -- Laws of `RunAll`: one call in words, each way through it; and whether the machine is sound afterwards.
-use Rattle.std.specs.Prelude.{◌≡◌, Bool, ◌&&◌, ℕ, ◌%◌, length, drop}
+use Rattle.std.specs.Prelude.{◌≡◌, Bool, ◌&&◌, ℕ, ◌%◌, length, drop, Some, None, Result, Ok, Err, ⊤}
 use Rattle.std.proofs.Math.Path.{refl, ap, sym}
 use Rattle.std.proofs.Common.{subst, ◌∙◌, true≢false}
 use Rattle.std.proofs.Math.Bool.{true, false, cond}
@@ -7,14 +7,13 @@ use mathlib.Core.List.{List, [], ◌∷◌}
 use Rattle.std.proofs.Math.Dec.{eqb}
 use Rattle.std.proofs.Math.ListN.{replicate}
 use borrow.Author.Tests.{eqb-true, eqb-false, eq-eqb}
+use Rattle.answers.specs.declared.Refusal.{Refusal}
 use Rattle.answers.specs.declared.Refusal.TheVariants.{BadTable}
 use Rattle.laws.specs.Lists.{pad}
 use Rattle.laws.specs.TellsLaws.{told}
 use Rattle.model.specs.declared.Answer.{Answer}
 use Rattle.model.specs.declared.Call.{Call}
 use Rattle.model.specs.declared.Call.TheVariants as asks
-use Rattle.model.specs.declared.Done.{Done}
-use Rattle.model.specs.declared.Done.TheVariants.{Yes, No}
 use Rattle.model.specs.Answers.{After, Reply, Try, leaving, refuse, of_done}
 use Rattle.model.specs.Calls as calls
 use Rattle.model.specs.EmptyLaws.{start_sound}
@@ -29,7 +28,6 @@ use Rattle.keeping.specs.CallsKept.{kept}
 use Rattle.rows.specs.LentMemory.{state_of, DoesWith}
 use Rattle.process.specs.Start.{Starts, start_call, files_of}
 use Rattle.soundness.specs.SoundLent.{sound_lent}
-use Rattle.call_words.specs.declared.Numbered.TheVariants.{Is, None}
 use Rattle.call_rows.specs.Asked.{call_in, starts_with}
 use Rattle.call_rows.specs.AskedLaws.{behind_started}
 use Rattle.call_rows.specs.BehindLaws.{behind}
@@ -60,27 +58,27 @@ step_sound k w f b w' f' r e does h = sound_lent_is w' f' b (h ∙ sound_length 
 
 -- ---- start
 
-abbrev is_refusal : Done → Bool
-is_refusal Yes = false
-is_refusal (No r) = true
+abbrev is_refusal : Result ⊤ Refusal → Bool
+is_refusal (Ok tt) = false
+is_refusal (Err r) = true
 
 module _ (w f b rows w' : List ℕ) where
   -- granted only with lengths that fit
-  granted_fits : start_call w f b rows ≡ leaving Yes (state_of w' f b) → (length w ≡ word_count) × (calls.start (state_of w f b) (files_of rows) ≡ leaving Yes (state_of w' f b))
+  granted_fits : start_call w f b rows ≡ leaving (Ok tt) (state_of w' f b) → (length w ≡ word_count) × (calls.start (state_of w f b) (files_of rows) ≡ leaving (Ok tt) (state_of w' f b))
   unfolding start_call
   granted_fits e = go (eqb (length w) word_count) (eqb (length rows % 3) 0) refl e
     where
       go : (x y : Bool) → eqb (length w) word_count ≡ x
-          → cond (x && y) (calls.start (state_of w f b) (files_of rows)) (refuse BadTable (state_of w f b)) ≡ leaving Yes (state_of w' f b)
-          → (length w ≡ word_count) × (calls.start (state_of w f b) (files_of rows) ≡ leaving Yes (state_of w' f b))
+          → cond (x && y) (calls.start (state_of w f b) (files_of rows)) (refuse BadTable (state_of w f b)) ≡ leaving (Ok tt) (state_of w' f b)
+          → (length w ≡ word_count) × (calls.start (state_of w f b) (files_of rows) ≡ leaving (Ok tt) (state_of w' f b))
       go true true p q = (eqb-true (length w) word_count p, q)
       go true false p q = absurd (true≢false (ap (λ (t : Try). is_refusal t.answer) q))
       go false true p q = absurd (true≢false (ap (λ (t : Try). is_refusal t.answer) q))
       go false false p q = absurd (true≢false (ap (λ (t : Try). is_refusal t.answer) q))
 
-  pub started_sound : (r : Done) → Yes ≡ r → Starts w f b rows w' r → length w' ≡ length w → true ≡ sound_lent w' f b
+  pub started_sound : (r : Result ⊤ Refusal) → Ok tt ≡ r → Starts w f b rows w' r → length w' ≡ length w → true ≡ sound_lent w' f b
   started_sound r e s h =
-      let is = granted_fits (s.0 ∙ ap (λ (d : Done). leaving d (state_of w' f b)) (sym e)) in
+      let is = granted_fits (s.0 ∙ ap (λ (d : Result ⊤ Refusal). leaving d (state_of w' f b)) (sym e)) in
       let left : Sound (state_of w' f b) = subst Sound (ap (λ (t : Try). t.state) is.1) (start_sound (state_of w f b) (files_of rows) (ap (λ (t : Try). t.answer) is.1)) in
       sound_lent_is w' f b (h ∙ is.0) (told (sound_tells (state_of w' f b)) left)
 
@@ -100,10 +98,10 @@ as_start asked w f b e = rw e (go (fits w) (eqb (length (drop 1 asked) % 3) 0))
 -- ---- rows
 
 -- an answer without values
-done_row : (r : Done) → (of_done r).number ∷ replicate 65 0 ≡ row_of (of_done r)
+done_row : (r : Result ⊤ Refusal) → (of_done r).number ∷ replicate 65 0 ≡ row_of (of_done r)
 unfolding row_of pad
-done_row Yes = refl
-done_row (No why) = refl
+done_row (Ok tt) = refl
+done_row (Err why) = refl
 
 -- a refusal of any call, in its shape
 refused_row : (c : Call) → 1 ∷ replicate 65 0 ≡ row_of (reply (refused c BadTable) no_starts)
@@ -140,13 +138,13 @@ module _ (asked w f b : List ℕ) where
 
   pub one_none : starts_with asked ≡ false → None ≡ call_in asked → (row : List ℕ) → row ≡ 1 ∷ replicate 65 0 → RanOne asked w f b w f row
   unfolding one_call
-  one_none e i = stays bad_table (done_row (No BadTable)) (rw (e, sym i) (go (fits w)))
+  one_none e i = stays bad_table (done_row (Err BadTable)) (rw (e, sym i) (go (fits w)))
     where
       go : (x : Bool) → cond x (leaving bad_table (state_of w f b)) (leaving bad_table (state_of w f b)) ≡ leaving bad_table (state_of w f b)
       go true = refl
       go false = refl
 
-  module _ (c : Call) (e : starts_with asked ≡ false) (i : Is c ≡ call_in asked) where
+  module _ (c : Call) (e : starts_with asked ≡ false) (i : Some c ≡ call_in asked) where
     as_call : one_call (fits w) asked (state_of w f b) ≡ cond (fits w) (call (meant c) (state_of w f b)) (leaving bad_table (state_of w f b))
     unfolding one_call
     as_call = rw (e, sym i) refl
@@ -156,7 +154,7 @@ module _ (asked w f b : List ℕ) where
     one_unsound u = go (fits w) refl (soundb (state_of w f b)) refl u
       where
         go : (x : Bool) → fits w ≡ x → (y : Bool) → soundb (state_of w f b) ≡ y → (x && y) ≡ false → (row : List ℕ) → row ≡ 1 ∷ replicate 65 0 → RanOne asked w f b w f row
-        go false p y q k = stays bad_table (done_row (No BadTable)) (as_call ∙ ap (λ (x : Bool). cond x (call (meant c) (state_of w f b)) (leaving bad_table (state_of w f b))) p)
+        go false p y q k = stays bad_table (done_row (Err BadTable)) (as_call ∙ ap (λ (x : Bool). cond x (call (meant c) (state_of w f b)) (leaving bad_table (state_of w f b))) p)
         go true p false q k =
             stays (reply (refused c BadTable) no_starts) (refused_row c) (as_call ∙ ap (λ (x : Bool). cond x (call (meant c) (state_of w f b)) (leaving bad_table (state_of w f b))) p ∙ any_unsound c (state_of w f b) q)
         go true p true q k = absurd (true≢false k)
@@ -176,7 +174,7 @@ module _ (asked w f b : List ℕ) where
           other = λ k. absurd (true≢false (sym fit ∙ k));
         }
 
-  pub start_told : starts_with asked ≡ true → (w' row : List ℕ) (r : Done) → Starts w f b (drop 1 asked) w' r → row ≡ (of_done r).number ∷ replicate 65 0 → RanOne asked w f b w' f row
+  pub start_told : starts_with asked ≡ true → (w' row : List ℕ) (r : Result ⊤ Refusal) → Starts w f b (drop 1 asked) w' r → row ≡ (of_done r).number ∷ replicate 65 0 → RanOne asked w f b w' f row
   unfolding start_call
   start_told e w' row r starts is =
       let all : one_call (fits w) asked (state_of w f b) ≡ leaving (of_done r) (state_of w' f b) = as_start asked w f b e ∙ ap (λ (t : Try). replying of_done t) starts.0 in
@@ -186,14 +184,14 @@ module _ (asked w f b : List ℕ) where
         other = λ k. (starts.1 BadTable (refusal k starts.0), refl);
       }
     where
-      refusal : fits w ≡ false → start_call w f b (drop 1 asked) ≡ leaving r (state_of w' f b) → r ≡ No BadTable
+      refusal : fits w ≡ false → start_call w f b (drop 1 asked) ≡ leaving r (state_of w' f b) → r ≡ Err BadTable
       refusal k q = sym (ap (λ (t : Try). t.answer) q) ∙ ap (λ (x : Bool). (cond (x && eqb (length (drop 1 asked) % 3) 0) (calls.start (state_of w f b) (files_of (drop 1 asked))) (refuse BadTable (state_of w f b))).answer) k
 
-  pub one_started : starts_with asked ≡ true → (w' row : List ℕ) (r : Done) → Starts w f b (behind asked) w' r → row ≡ (of_done r).number ∷ replicate 65 0 → RanOne asked w f b w' f row
+  pub one_started : starts_with asked ≡ true → (w' row : List ℕ) (r : Result ⊤ Refusal) → Starts w f b (behind asked) w' r → row ≡ (of_done r).number ∷ replicate 65 0 → RanOne asked w f b w' f row
   one_started e w' row r s is = start_told e w' row r (subst (λ (rows : List ℕ). Starts w f b rows w' r) (behind_started asked e) s) is
 
   -- what any call's own function answers and leaves, of any lent memory
-  pub one_ran : (c : Call) → starts_with asked ≡ false → Is c ≡ call_in asked → (w' f' row : List ℕ) → row ≡ row_of (reply_on c w f b) → Leaves (λ s. call (meant c) s) w f b w' f' → RanOne asked w f b w' f' row
+  pub one_ran : (c : Call) → starts_with asked ≡ false → Some c ≡ call_in asked → (w' f' row : List ℕ) → row ≡ row_of (reply_on c w f b) → Leaves (λ s. call (meant c) s) w f b w' f' → RanOne asked w f b w' f' row
   unfolding reply_on answer_on
   one_ran c e i w' f' row is left = go (fits w) refl
     where
@@ -209,7 +207,7 @@ module _ (asked w f b : List ℕ) where
           let all : one_call (fits w) asked (state_of w f b) ≡ leaving bad_table (state_of w f b) = as_call c e i ∙ ap (λ (x : Bool). cond x (call (meant c) (state_of w f b)) (leaving bad_table (state_of w f b))) p in
           let same = left.other (eqb-false (length w) word_count p) in
           record {
-            told = is ∙ ap (λ (x : Bool). row_of (cond x (call (meant c) (state_of w f b)).answer (reply (refused c BadTable) no_starts))) p ∙ sym (refused_row c) ∙ done_row (No BadTable) ∙ ap (λ (t : After Reply). row_of t.answer) (sym all);
+            told = is ∙ ap (λ (x : Bool). row_of (cond x (call (meant c) (state_of w f b)).answer (reply (refused c BadTable) no_starts))) p ∙ sym (refused_row c) ∙ done_row (Err BadTable) ∙ ap (λ (t : After Reply). row_of t.answer) (sym all);
             leaves = (λ k. state_of (same.0 k) (same.1 k) b) ∙ ap (λ (t : After Reply). t.state) (sym all);
             other = λ _. same;
           }

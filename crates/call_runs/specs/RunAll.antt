@@ -1,5 +1,6 @@
 -- Many calls as words: each with its soundness test, one after the other, and what they answer and leave of the lent memory (RULES D1, D3, E1, O1).
-use Rattle.std.specs.Prelude.{◌≡◌, Bool, false, cond, List, [], ◌∷◌, ◌++◌, ℕ, zero, suc, ◌+◌, ◌*◌, ◌/◌, ◌%◌, eqb, leb, length, take, drop}
+use Rattle.std.specs.Prelude.{◌≡◌, Bool, false, cond, List, [], ◌∷◌, ◌++◌, ℕ, zero, suc, ◌+◌, ◌*◌, ◌/◌, ◌%◌, eqb, leb, length, take, drop, Option, Some, None}
+use Rattle.model.specs.declared.Call.{Call}
 use Rattle.answers.specs.declared.Refusal.TheVariants.{BadTable}
 use Rattle.answers.specs.Number.{number_of}
 use Rattle.laws.specs.Lists.{pad}
@@ -11,8 +12,6 @@ use Rattle.model.specs.Meant.{meant}
 use Rattle.model.specs.Run.{call, replying}
 use Rattle.rows.specs.LentMemory.{state_of}
 use Rattle.process.specs.Start.{files_of}
-use Rattle.call_words.specs.declared.Numbered.{Numbered}
-use Rattle.call_words.specs.declared.Numbered.TheVariants.{Is, None}
 use Rattle.call_rows.specs.Asked.{call_in, starts_with}
 
 -- ---- the calls: of each how many words it has, then its words
@@ -41,8 +40,8 @@ abbrev pub bad_table : Reply
 bad_table = record { number = number_of BadTable; values = [] }
 
 -- by its number; words that are no call are BadTable, and change nothing
-abbrev pub named : Numbered → State → After Reply
-named (Is c) s = call (meant c) s
+abbrev pub named : Option Call → State → After Reply
+named (Some c) s = call (meant c) s
 named None s = leaving bad_table s
 
 -- start, with the rows of files, three words each

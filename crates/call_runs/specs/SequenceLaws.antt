@@ -1,6 +1,7 @@
 -- Laws of `RunAll`: its calls are a sequence of the model's calls, so that what holds after any sequence holds after them (RULES D3).
-use Rattle.std.specs.Prelude.{◌≡◌, refl, Bool, true, false, cond, List, [], ◌∷◌, ◌++◌, ℕ, ◌%◌, eqb, length, drop}
+use Rattle.std.specs.Prelude.{◌≡◌, refl, Bool, true, false, cond, List, [], ◌∷◌, ◌++◌, ℕ, ◌%◌, eqb, length, drop, Option, Some, None}
 use Rattle.std.proofs.Common.{ap, sym, subst, ◌∙◌, eq-eqb}
+use Rattle.model.specs.declared.Call as code
 use Rattle.model.specs.Answers.{leaving, of_done}
 use Rattle.model.specs.Calls as calls
 use Rattle.model.specs.Layout.{word_count}
@@ -11,14 +12,12 @@ use Rattle.model.specs.Sound.{Sound}
 use Rattle.keeping.specs.CallsKept.{run_kept}
 use Rattle.rows.specs.LentMemory.{state_of}
 use Rattle.process.specs.Start.{files_of}
-use Rattle.call_words.specs.declared.Numbered.{Numbered}
-use Rattle.call_words.specs.declared.Numbered.TheVariants.{Is, None}
 use Rattle.call_rows.specs.Asked.{call_in, starts_with}
 use Rattle.call_runs.specs.RunAll.{bad_table, named, started, one_call, run_all, running, RanAll}
 
 -- the model's calls that the words of one are: it, or none
-abbrev numbered : Numbered → List Call
-numbered (Is c) = meant c ∷ []
+abbrev numbered : Option code.Call → List Call
+numbered (Some c) = meant c ∷ []
 numbered None = []
 
 abbrev meant_by : List ℕ → List Call
@@ -32,12 +31,12 @@ one_runs : (l : List ℕ) (s : State) → (one_call true l s).state ≡ run (mea
 unfolding one_call started run step call
 one_runs l s = go (starts_with l) (eqb (length (drop 1 l) % 3) 0) (call_in l)
   where
-    go : (x y : Bool) (n : Numbered)
+    go : (x y : Bool) (n : Option code.Call)
         → (cond x (cond y (replying of_done (calls.start s (files_of (drop 1 l)))) (leaving bad_table s)) (named n s)).state
         ≡ run (cond x (cond y (Call.start (files_of (drop 1 l)) ∷ []) []) (numbered n)) s
     go true true n = refl
     go true false n = refl
-    go false y (Is c) = refl
+    go false y (Some c) = refl
     go false y None = refl
 
 run_both : (k l : List Call) (s : State) → run (k ++ l) s ≡ run l (run k s)

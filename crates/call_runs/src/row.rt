@@ -1,14 +1,12 @@
 // One call of many: its words in, the row of its answer out.
-ghost use Rattle.std.specs.Prelude.{◌≡◌, true, false, ◌∷◌, length, replicate};
-ghost use Rattle.call_words.specs.declared.Numbered.TheVariants.{Is};
+ghost use Rattle.std.specs.Prelude.{◌≡◌, true, false, ◌∷◌, length, replicate, Some};
 ghost use Rattle.call_rows.specs.Asked.{call_in, starts_with};
 ghost use Rattle.soundness.specs.SoundLent.{sound_lent};
 ghost use Rattle.call_runs.specs.RunAll.{RanOne};
 
 use call_rows::asked::{call_in, is_start};
 use call_rows::told::{tell_answer, tell_done};
-use call_words::Numbered;
-use model::{Call, Done};
+use model::Call;
 use process::start::start;
 use regions::list::put_zeros;
 use step::step;
@@ -31,7 +29,7 @@ pub fn run_row(
     if is_start(call) {
         return start_row(words, &frames[..], files, call, row, sound);
     }
-    let Numbered::Is(asked) = call_in(call) else {
+    let Some(asked) = call_in(call) else {
         return sound;
     };
     if !sound {
@@ -69,8 +67,8 @@ fn start_row(
     let answer = start(words, frames, files, &call[1..]);
     row[0] = tell_done(answer);
     match answer {
-        Done::Yes => true,
-        Done::No(_) => sound,
+        Ok(()) => true,
+        Err(_) => sound,
     }
 }
 
@@ -85,7 +83,7 @@ fn step_row(
 )
     requires row_value { row.old ≡ 1 ∷ replicate 65 0 }
     requires call_value { starts_with call.now ≡ false }
-    requires asked_value { Is asked ≡ call_in call.now }
+    requires asked_value { Some asked ≡ call_in call.now }
     requires files_value { sound_lent words.old frames.old files.now ≡ true }
     ensures ran_one { RanOne call.now words.old frames.old files.now words.new frames.new row.new }
     ensures true_value { true ≡ sound_lent words.new frames.new files.now }

@@ -18,9 +18,9 @@ use Rattle.call_text.specs.declared.asked.Why.{Why}
 use Rattle.call_text.specs.declared.asked.Why.TheVariants as why
 use Rattle.call_text.specs.Faults.{fault_of, word_fault}
 use Rattle.call_text.specs.Operand.{valued, number_says, one_of, spot_says, bytesb, digits_say, word_says, operand_at}
-use Rattle.call_text.specs.Parse.{machine_of, number_of, asked_of, finished_in, name_of, call_named, call_in}
+use Rattle.call_text.specs.Parse.{machine_of, number_of, asked_of, finished_in, name_of, call_named, call_in, told}
 use Rattle.call_text.specs.Values.{pushed, with_operand, values_in, read_in, form_in}
-use Rattle.call_text.specs.WordList.{codes, sameb, place_from, nth_from}
+use Rattle.call_text.specs.WordList.{codes, place_from, nth_from}
 
 pub record Row : Type 0 where
   pub line : String
@@ -96,6 +96,6 @@ rows =
     ∷ row "file readable 0g" (operand why.NoBytes "H" 14 16)
     ∷ []
 
-pub computed : map (λ (r : Row). call_in (codes r.line)) rows ≡ map (λ (r : Row). r.asks) rows
-unfolding digit_of digitsb value_from fitting digits_in number_in blanks letters word_at codes sameb place_from nth_from valued number_says one_of spot_says bytesb digits_say word_says operand_at pushed with_operand values_in read_in form_in place_of population_of fork_of private_of file_of call_of machine_of number_of asked_of finished_in name_of call_named call_in
+pub computed : map (λ (r : Row). told (call_in (codes r.line))) rows ≡ map (λ (r : Row). r.asks) rows
+unfolding digit_of digitsb value_from fitting digits_in number_in blanks letters word_at codes place_from nth_from valued number_says one_of spot_says bytesb digits_say word_says operand_at pushed with_operand values_in read_in form_in place_of population_of fork_of private_of file_of call_of machine_of number_of asked_of finished_in name_of call_named call_in
 computed = refl

@@ -5,8 +5,6 @@ pub mod Operand
 pub mod WordList
 pub mod Faults
 pub mod WordListLaws
-pub mod DigitsLaws
-pub mod OperandLaws
 pub mod ValuesLaws
 pub mod ParseLaws
 pub mod Examples

@@ -1,5 +1,7 @@
 -- Lists of words, and the words of a line: which word of a list a word is, and the word at a place.
-use Rattle.std.specs.Prelude.{Bool, true, false, ◌&&◌, cond, List, [], ◌∷◌, ℕ, zero, suc, ◌-◌, ◌≤◌, eqb, take, drop}
+use Rattle.std.specs.Prelude.{Bool, cond, List, [], ◌∷◌, ℕ, zero, suc, ◌-◌, ◌≤◌, eqb, take, drop, Option, Some, None}
+use Rattle.std.specs.Option.{option_map}
+use Rattle.std.specs.Str.{bytes_eq}
 use Prim.Native.Char.{code}
 use Prim.Native.String.{String, [], ◌∷◌}
 use Rattle.text.specs.declared.words.Word.{Word}
@@ -18,20 +20,13 @@ text_of s w = take (w.to - w.from) (drop w.from s)
 abbrev pub none : Word → Bool
 none w = eqb w.from w.to
 
--- whether two texts are the same
-unfoldable pub sameb : List ℕ → List ℕ → Bool
-sameb [] [] = true
-sameb [] (b ∷ t) = false
-sameb (a ∷ s) [] = false
-sameb (a ∷ s) (b ∷ t) = eqb a b && sameb s t
-
--- the place of a word among the next `count` words of a list, from 0; `count` if it is none of them
-unfoldable pub place_from : ℕ → List ℕ → ℕ → List ℕ → ℕ
-place_from zero list at word = 0
+-- the place of a word among the next `count` words of a list, from 0, if it is one of them
+unfoldable pub place_from : ℕ → List ℕ → ℕ → List ℕ → Option ℕ
+place_from zero list at word = None
 place_from (suc count) list at word =
-    cond (sameb word (text_of list (word_at list at))) 0 (suc (place_from count list (word_at list at).to word))
+    cond (bytes_eq word (text_of list (word_at list at))) (Some 0) (option_map (λ (k : ℕ). suc k) (place_from count list (word_at list at).to word))
 
-abbrev pub place_in : List ℕ → ℕ → List ℕ → ℕ
+abbrev pub place_in : List ℕ → ℕ → List ℕ → Option ℕ
 place_in list count word = place_from count list 0 word
 
 -- the word at a place among the words of a list from `at` on

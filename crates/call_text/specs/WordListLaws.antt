@@ -1,61 +1,44 @@
 -- How the loops over a list of words find a word's place, and the word at a place.
-use Rattle.std.specs.Prelude.{◌≡◌, refl, Bool, true, false, ◌&&◌, List, [], ◌∷◌, ℕ, zero, suc, ◌+◌, ◌-◌, ◌≤◌, ◌<◌, eqb}
-use Rattle.std.proofs.Common.{sym, ◌∙◌, true≢false, arith, eq-eqb, eqb-true}
+use Rattle.std.specs.Prelude.{◌≡◌, refl, true, false, List, ℕ, zero, suc, ◌+◌, ◌-◌, ◌≤◌, ◌<◌, Option, Some, None}
+use Rattle.std.specs.Option.{option_map}
+use Rattle.std.specs.Str.{bytes_eq}
+use Rattle.std.proofs.Common.{ap, arith}
 use Rattle.text.specs.declared.words.Word.{Word}
 use Rattle.text.specs.LineWords.{word_at}
-use Rattle.call_text.specs.WordList.{text_of, sameb, place_from, nth_from, nth_in}
+use Rattle.call_text.specs.WordList.{text_of, place_from, nth_from, nth_in}
 
--- ---- the test tells whether two texts are equal
+-- ---- the loop: behind the words passed, the place among those left is the place among all
 
-sameb_refl : (s : List ℕ) → sameb s s ≡ true
-unfolding sameb
-sameb_refl [] = refl
-sameb_refl (a ∷ s) = rw (eq-eqb a a refl) (sameb_refl s)
+abbrev pub behind : ℕ → Option ℕ → Option ℕ
+behind i o = option_map (λ (k : ℕ). i + k) o
 
-sameb_eq : (s t : List ℕ) → sameb s t ≡ true → s ≡ t
-unfolding sameb
-sameb_eq [] [] e = refl
-sameb_eq [] (b ∷ t) e = absurd (true≢false (sym e))
-sameb_eq (a ∷ s) [] e = absurd (true≢false (sym e))
-sameb_eq (a ∷ s) (b ∷ t) e = go (eqb a b) refl e (sameb_eq s t)
-  where
-    go : (x : Bool) → eqb a b ≡ x → (x && sameb s t) ≡ true → (sameb s t ≡ true → s ≡ t) → (a ∷ s) ≡ (b ∷ t)
-    go true p q rest = rw (eqb-true a b p, rest q)
-    go false p q rest = absurd (true≢false (sym q))
+behind_none : (o : Option ℕ) → behind 0 o ≡ o
+behind_none None = refl
+behind_none (Some k) = ap (λ (x : ℕ). Some x) (omega arith)
 
--- as the code learns it: r says whether s and t are the same
-module _ (r : Bool) (s t : List ℕ) (is : (r ≡ true → s ≡ t) × (s ≡ t → r ≡ true)) where
-  same_true : r ≡ true → sameb s t ≡ true
-  same_true e = rw (is.0 e) (sameb_refl t)
+behind_one : (i : ℕ) (o : Option ℕ) → behind (i + 1) o ≡ behind i (option_map (λ (k : ℕ). suc k) o)
+behind_one i None = refl
+behind_one i (Some k) = ap (λ (x : ℕ). Some x) (omega arith)
 
-  same_false : r ≡ false → sameb s t ≡ false
-  same_false e = go (sameb s t) refl
-    where
-      go : (x : Bool) → sameb s t ≡ x → sameb s t ≡ false
-      go true p = absurd (true≢false (sym (is.1 (sameb_eq s t p)) ∙ e))
-      go false p = p
-
--- ---- the loop: at each word, the words passed and the place among those left add up to the same
-
-pub place_start : (list word : List ℕ) (count : ℕ) → 0 + place_from (count - 0) list 0 word ≡ place_from count list 0 word
-place_start list word count = let z : count - 0 ≡ count = omega arith in rw z (omega arith)
+pub place_start : (list word : List ℕ) (count : ℕ) → behind 0 (place_from (count - 0) list 0 word) ≡ place_from count list 0 word
+place_start list word count = let z : count - 0 ≡ count = omega arith in rw z (behind_none (place_from count list 0 word))
 
 module _ (list word : List ℕ) (count i at : ℕ) (inside : i < count) where
   left : count - i ≡ suc (count - (i + 1))
   left = omega arith
 
-  module _ (w : Word) (next : w ≡ word_at list at) (r : Bool) (is : (r ≡ true → word ≡ text_of list w) × (word ≡ text_of list w → r ≡ true)) where
-    pub place_here : r ≡ true → i ≡ i + place_from (count - i) list at word
+  module _ (w : Word) (next : w ≡ word_at list at) where
+    pub place_here : bytes_eq word (text_of list w) ≡ true → Some i ≡ behind i (place_from (count - i) list at word)
     unfolding place_from
-    place_here e = rw (left, ← next, same_true r word (text_of list w) is e) (omega arith)
+    place_here e = rw (left, ← next, e) (ap (λ (x : ℕ). Some x) (omega arith))
 
-    pub place_more : r ≡ false → i + 1 + place_from (count - (i + 1)) list w.to word ≡ i + place_from (count - i) list at word
+    pub place_more : bytes_eq word (text_of list w) ≡ false → behind (i + 1) (place_from (count - (i + 1)) list w.to word) ≡ behind i (place_from (count - i) list at word)
     unfolding place_from
-    place_more e = rw (left, ← next, same_false r word (text_of list w) is e) (omega arith)
+    place_more e = rw (left, ← next, e) (behind_one i (place_from (count - (i + 1)) list w.to word))
 
-pub place_none : (list word : List ℕ) (count i at : ℕ) → count ≤ i → i ≡ i + place_from (count - i) list at word
+pub place_none : (list word : List ℕ) (count i at : ℕ) → count ≤ i → None ≡ behind i (place_from (count - i) list at word)
 unfolding place_from
-place_none list word count i at h = let z : count - i ≡ 0 = omega arith in rw z (omega arith)
+place_none list word count i at h = let z : count - i ≡ 0 = omega arith in rw z
 
 -- ---- the loop to a word's place: the word at the places left is the word
 

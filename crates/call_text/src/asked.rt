@@ -1,10 +1,11 @@
 // What a line of a script can ask for, and what can be wrong with it.
 ghost use Rattle.std.specs.Prelude.{◌≡◌};
-ghost use Rattle.call_text.specs.Faults.{whole_fault};
+ghost use Rattle.call_text.specs.Faults.{word_fault, whole_fault};
 
 use model::Call;
 use text::Word;
 
+// A bad line stays one of the things asked, because the step's definition says what each of them does.
 #[derive(Clone, Copy)]
 pub enum Asked {
     // A blank line or a comment.
@@ -21,7 +22,7 @@ pub enum Asked {
 }
 
 // A call of the lone manager.
-#[derive(Clone, Copy)]
+#[derive(Clone, Copy, Debug, PartialEq, Eq)]
 pub enum LoneCall {
     Manager(u64, u64),
     Reserve(u64),
@@ -39,7 +40,7 @@ pub struct Fault {
     pub word: Word,
 }
 
-#[derive(Clone, Copy)]
+#[derive(Clone, Copy, Debug, PartialEq, Eq)]
 pub enum Why {
     UnknownCall,
     Missing,
@@ -57,13 +58,16 @@ pub enum Why {
     TooManyBytes,
 }
 
+// What is wrong with a word that is no operand.
+pub fn word_fault(why: Why, word: Word) -> Fault
+    ensures { result ≡ word_fault why word }
+{
+    Fault { why, what: 0, word }
+}
+
 // What is wrong with a line as a whole.
 pub fn whole_fault(why: Why) -> Fault
     ensures { result ≡ whole_fault why }
 {
-    Fault {
-        why,
-        what: 0,
-        word: Word { from: 0, to: 0 },
-    }
+    word_fault(why, Word { from: 0, to: 0 })
 }

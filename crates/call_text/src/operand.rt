@@ -5,46 +5,45 @@ ghost use Rattle.call_text.specs.Operand.{operand_at, word_says, one_of, spot_sa
 use crate::asked::{Fault, Why};
 use crate::digits::spells_bytes;
 use crate::word_list::place_of;
-use text::{Number, Word, next_word};
+use text::{NumberError, Word, next_word};
 
 // One value or two, and the place behind the operand.
 #[derive(Clone, Copy)]
 pub enum Read {
     One(u64, usize),
     Two(u64, u64, usize),
-    Bad(Fault),
 }
 
 // The operand of a letter, from `at` on. Bytes may be missing: an empty file has none.
-pub fn read_operand(line: &[u8], at: usize, letter: u8) -> Read
+#[tactic(auto, unfolding(crate::specs::Operand::operand_at))]
+pub fn read_operand(line: &[u8], at: usize, letter: u8) -> Result<Read, Fault>
     ensures { result ≡ operand_at line.now at letter }
 {
     if letter == b'0' {
-        return Read::One(0, at);
+        return Ok(Read::One(0, at));
     }
     if letter == b'1' {
-        return Read::One(1, at);
+        return Ok(Read::One(1, at));
     }
     let word = next_word(line, at);
-    let from = word.from;
-    let to = word.to;
-    if from != to {
-        return word_says(letter, word, &line[from..to]);
+    if word.from != word.to {
+        return word_says(letter, word, &line[word.from..word.to]);
     }
     if letter == b'H' {
-        return Read::Two(from as u64, to as u64, to);
+        return Ok(Read::Two(word.from as u64, word.to as u64, word.to));
     }
     bad(Why::Missing, letter, word)
 }
 
-fn bad(why: Why, what: u8, word: Word) -> Read
+fn bad(why: Why, what: u8, word: Word) -> Result<Read, Fault>
     ensures { result ≡ wrong why what word }
 {
-    Read::Bad(Fault { why, what, word })
+    Err(Fault { why, what, word })
 }
 
 // What a word says, whose text is given.
-fn word_says(letter: u8, word: Word, text: &[u8]) -> Read
+#[tactic(auto, unfolding(crate::specs::Operand::word_says, crate::specs::WordList::codes))]
+fn word_says(letter: u8, word: Word, text: &[u8]) -> Result<Read, Fault>
     ensures { result ≡ word_says letter word text.now }
 {
     match letter {
@@ -60,58 +59,57 @@ fn word_says(letter: u8, word: Word, text: &[u8]) -> Read
 }
 
 // One of the first `count` words of a list, by its place.
-fn one_of(letter: u8, word: Word, text: &[u8], list: &[u8], count: u64) -> Read
+#[tactic(auto, unfolding(crate::specs::Operand::one_of))]
+fn one_of(letter: u8, word: Word, text: &[u8], list: &[u8], count: u64) -> Result<Read, Fault>
     ensures { result ≡ one_of letter word text.now list.now count }
 {
-    let place = place_of(list, count, text);
-    if place < count {
-        return Read::One(place, word.to);
+    match place_of(list, count, text) {
+        Some(place) => Ok(Read::One(place, word.to)),
+        None => bad(Why::Neither, letter, word),
     }
-    bad(Why::Neither, letter, word)
 }
 
 // `any`, or a start.
-fn spot_says(word: Word, text: &[u8]) -> Read
+#[tactic(auto, unfolding(crate::specs::Operand::spot_says, crate::specs::WordList::codes))]
+fn spot_says(word: Word, text: &[u8]) -> Result<Read, Fault>
     ensures { result ≡ spot_says word text.now }
 {
-    if place_of(b"any", 1, text) == 0 {
-        return Read::Two(0, 0, word.to);
+    if text == b"any".as_slice() {
+        return Ok(Read::Two(0, 0, word.to));
     }
     number_says(b'@', word, text)
 }
 
 // Bytes, as the place of their digits.
-fn digits_say(word: Word, text: &[u8]) -> Read
+#[tactic(auto, unfolding(crate::specs::Operand::digits_say))]
+fn digits_say(word: Word, text: &[u8]) -> Result<Read, Fault>
     ensures { result ≡ digits_say word text.now }
 {
     if spells_bytes(text) {
-        return Read::Two(word.from as u64, word.to as u64, word.to);
+        return Ok(Read::Two(word.from as u64, word.to as u64, word.to));
     }
     bad(Why::NoBytes, b'H', word)
 }
 
-fn number_says(letter: u8, word: Word, text: &[u8]) -> Read
+#[tactic(auto, unfolding(crate::specs::Operand::number_says))]
+fn number_says(letter: u8, word: Word, text: &[u8]) -> Result<Read, Fault>
     ensures { result ≡ number_says letter word text.now }
 {
     match text::read_number(text) {
-        Number::Is(value) => valued_as(letter, word, value),
-        Number::TooLarge => bad(Why::TooLarge, letter, word),
-        Number::NoNumber => bad(Why::NoNumber, letter, word),
+        Ok(value) => valued_as(letter, word, value),
+        Err(NumberError::TooLarge) => bad(Why::TooLarge, letter, word),
+        Err(NumberError::NoNumber) => bad(Why::NoNumber, letter, word),
     }
 }
 
 // A number: a start has 1 before it, and a byte is not above 255.
-fn valued_as(letter: u8, word: Word, value: u64) -> Read
+#[tactic(auto, unfolding(crate::specs::Operand::valued))]
+fn valued_as(letter: u8, word: Word, value: u64) -> Result<Read, Fault>
     ensures { result ≡ valued letter word value }
 {
-    if letter == b'@' {
-        return Read::Two(1, value, word.to);
+    match letter {
+        b'@' => Ok(Read::Two(1, value, word.to)),
+        b'B' if 256 <= value => bad(Why::NoByte, letter, word),
+        _ => Ok(Read::One(value, word.to)),
     }
-    if value < 256 {
-        return Read::One(value, word.to);
-    }
-    if letter == b'B' {
-        return bad(Why::NoByte, letter, word);
-    }
-    Read::One(value, word.to)
 }

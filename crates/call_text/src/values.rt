@@ -1,19 +1,17 @@
 // The values of a call's operands, word after word of its form.
 ghost use Rattle.std.specs.Prelude.{◌≡◌};
-ghost use Rattle.call_text.specs.Values.{begun, again, pushed, with_operand, failing, values_in, read_in, form_in};
+ghost use Rattle.call_text.specs.Values.{begun, again, pushed, with_operand, values_in, read_in, form_in};
 
-use crate::asked::{Fault, Why, whole_fault};
+use crate::asked::Fault;
 use crate::operand::{Read, read_operand};
 use crate::word_list::word_at;
 
-// The first `count` of `list` are values; `next` is the place behind them. Where it is bad, `fault` says why, and nothing else counts.
+// The first `count` of `list` are values; `next` is the place behind them. An array, because nothing here allocates.
 #[derive(Clone, Copy)]
 pub struct Values {
     pub list: [u64; 10],
     pub count: usize,
     pub next: usize,
-    pub bad: bool,
-    pub fault: Fault,
 }
 
 impl Values {
@@ -22,11 +20,9 @@ impl Values {
         ensures { result ≡ begun next }
     {
         Values {
-            list: [0u64; 10],
+            list: [0; 10],
             count: 0,
             next,
-            bad: false,
-            fault: whole_fault(Why::Missing),
         }
     }
 
@@ -34,18 +30,11 @@ impl Values {
     pub fn first(self) -> Values
         ensures { result ≡ again self }
     {
-        let list = self.list;
-        let fault = self.fault;
-        Values {
-            list,
-            count: 1,
-            next: self.next,
-            bad: self.bad,
-            fault,
-        }
+        Values { count: 1, ..self }
     }
 
     // One value more; ten are kept.
+    #[tactic(auto, unfolding(crate::specs::Values::pushed))]
     fn pushed(self, value: u64, next: usize) -> Values
         ensures { result ≡ pushed value next self }
     {
@@ -54,70 +43,49 @@ impl Values {
             return self;
         }
         let mut list = self.list;
-        let fault = self.fault;
         list[count] = value;
         Values {
             list,
             count: count + 1,
             next,
-            bad: self.bad,
-            fault,
         }
     }
 
     // With the operand of a letter.
-    fn with(self, line: &[u8], letter: u8) -> Values
+    #[tactic(auto, unfolding(crate::specs::Values::with_operand))]
+    fn with(self, line: &[u8], letter: u8) -> Result<Values, Fault>
         ensures { result ≡ with_operand line.now self letter }
     {
-        if self.bad {
-            return self;
-        }
-        match read_operand(line, self.next, letter) {
-            Read::One(value, next) => self.pushed(value, next),
-            Read::Two(first, second, next) => self.pushed(first, next).pushed(second, next),
-            Read::Bad(fault) => self.failed(fault),
-        }
-    }
-
-    fn failed(self, fault: Fault) -> Values
-        ensures { result ≡ failing fault self }
-    {
-        let list = self.list;
-        Values {
-            list,
-            count: self.count,
-            next: self.next,
-            bad: true,
-            fault,
+        match read_operand(line, self.next, letter)? {
+            Read::One(value, next) => Ok(self.pushed(value, next)),
+            Read::Two(first, second, next) => Ok(self.pushed(first, next).pushed(second, next)),
         }
     }
 }
 
 // The values of the operands of a form, behind those that are there.
-fn read_values(line: &[u8], values: Values, form: &[u8]) -> Values
+fn read_values(line: &[u8], values: Values, form: &[u8]) -> Result<Values, Fault>
     ensures { result ≡ values_in line.now values form.now }
 {
     let mut so_far = values;
-    let mut i = 0;
-    while i < form.len() {
-        so_far = so_far.with(line, form[i]);
-        i += 1;
+    for &letter in form {
+        so_far = so_far.with(line, letter)?;
     }
-    so_far
+    Ok(so_far)
 }
 
 // The form at a place of a list of forms.
-fn read_in(line: &[u8], values: Values, forms: &[u8], place: u64) -> Values
+#[tactic(auto, unfolding(crate::specs::Values::read_in))]
+fn read_in(line: &[u8], values: Values, forms: &[u8], place: u64) -> Result<Values, Fault>
     ensures { result ≡ read_in line.now values forms.now place }
 {
     let word = word_at(forms, place);
-    let from = word.from;
-    let to = word.to;
-    read_values(line, values, &forms[from..to])
+    read_values(line, values, &forms[word.from..word.to])
 }
 
 // The form of the call at a place: of the four kinds of creation, then of the names.
-pub fn read_form(line: &[u8], values: Values, place: u64) -> Values
+#[tactic(auto, unfolding(crate::specs::Values::form_in, crate::specs::WordList::codes))]
+pub fn read_form(line: &[u8], values: Values, place: u64) -> Result<Values, Fault>
     ensures { result ≡ form_in line.now values place }
 {
     read_in(

@@ -1,5 +1,5 @@
 -- The call of a number and its arguments: numbers in the order of model's Run.Call, arguments in the order of the call's own.
-use Rattle.std.specs.Prelude.{Bool, ◌&&◌, cond, List, [], ◌∷◌, ℕ, eqb, ltb, get_or}
+use Rattle.std.specs.Prelude.{Bool, ◌&&◌, cond, List, [], ◌∷◌, ℕ, eqb, ltb, get_or, Option, Some, None}
 use Rattle.address.specs.declared.VirtAddr.{VirtAddr}
 use Rattle.model.specs.declared.Call.{Call}
 use Rattle.model.specs.declared.Call.TheVariants as call
@@ -9,8 +9,6 @@ use Rattle.model.specs.declared.Population.{Population}
 use Rattle.model.specs.declared.Population.TheVariants as population
 use Rattle.model.specs.declared.ForkPolicy.{ForkPolicy}
 use Rattle.model.specs.declared.ForkPolicy.TheVariants as fork
-use Rattle.call_words.specs.declared.Numbered.{Numbered}
-use Rattle.call_words.specs.declared.Numbered.TheVariants.{Is, None}
 
 -- ---- arguments
 
@@ -41,52 +39,52 @@ unfoldable pub fork_of : ℕ → ForkPolicy
 fork_of flag = cond (set flag) fork.CopyEager fork.CopyOnWrite
 
 -- a call whose flags, or whose byte, are none is no call
-abbrev pub only : Bool → Call → Numbered
-only fits c = cond fits (Is c) None
+abbrev pub only : Bool → Call → Option Call
+only fits c = cond fits (Some c) None
 
 -- ---- calls
 
 -- the places of flags: 1 where a region goes, 3 eager, 6 copy, 7 per thread
-unfoldable pub private_of : List ℕ → Numbered
+unfoldable pub private_of : List ℕ → Option Call
 private_of a =
     only (flagb (arg a 1) && (flagb (arg a 3) && (flagb (arg a 6) && flagb (arg a 7))))
     (call.CreatePrivate (arg a 0) (place_of (arg a 1) (arg a 2)) (population_of (arg a 3)) (arg a 4) (arg a 5) (fork_of (arg a 6)) (set (arg a 7)))
 
 -- 1 where it goes, 5 copy, 6 per thread
-unfoldable pub file_of : List ℕ → Numbered
+unfoldable pub file_of : List ℕ → Option Call
 file_of a =
     only (flagb (arg a 1) && (flagb (arg a 5) && (flagb (arg a 6) && flagb 0)))
     (call.CreateFile (arg a 0) (place_of (arg a 1) (arg a 2)) (arg a 3) (arg a 4) (fork_of (arg a 5)) (set (arg a 6)) (arg a 7) (arg a 8) (arg a 9))
 
 -- by number; start, 0, is not among them: it takes the rows of files
-abbrev pub calls : List ℕ → List Numbered
+abbrev pub calls : List ℕ → List (Option Call)
 calls a =
     None
-    ∷ Is call.Sound
-    ∷ Is (call.Open (addr a 0) (arg a 1))
-    ∷ Is (call.Close (arg a 0))
+    ∷ Some call.Sound
+    ∷ Some (call.Open (addr a 0) (arg a 1))
+    ∷ Some (call.Close (arg a 0))
     ∷ private_of a
     ∷ file_of a
     ∷ only (flagb (arg a 1)) (call.CreateShared (arg a 0) (place_of (arg a 1) (arg a 2)) (arg a 3))
-    ∷ Is (call.Remove (arg a 0) (addr a 1))
-    ∷ Is (call.Clear (arg a 0))
-    ∷ Is (call.Carve (arg a 0) (arg a 1) (arg a 2))
-    ∷ Is (call.Covers (arg a 0) (arg a 1) (arg a 2))
-    ∷ Is (call.Region (arg a 0) (addr a 1))
-    ∷ Is (call.Regions (arg a 0))
+    ∷ Some (call.Remove (arg a 0) (addr a 1))
+    ∷ Some (call.Clear (arg a 0))
+    ∷ Some (call.Carve (arg a 0) (arg a 1) (arg a 2))
+    ∷ Some (call.Covers (arg a 0) (arg a 1) (arg a 2))
+    ∷ Some (call.Region (arg a 0) (addr a 1))
+    ∷ Some (call.Regions (arg a 0))
     ∷ only (flagb (arg a 2)) (call.Fault (arg a 0) (addr a 1) (set (arg a 2)))
     ∷ only (flagb (arg a 3)) (call.Populate (arg a 0) (addr a 1) (arg a 2) (set (arg a 3)))
-    ∷ Is (call.Eager (arg a 0))
-    ∷ Is (call.CloneRegion (arg a 0) (addr a 1) (arg a 2))
-    ∷ Is (call.Clone (arg a 0) (arg a 1))
-    ∷ Is (call.Protect (arg a 0) (addr a 1) (arg a 2))
-    ∷ Is (call.Pin (arg a 0) (addr a 1))
-    ∷ Is (call.Unpin (arg a 0) (addr a 1))
-    ∷ Is (call.Load (arg a 0) (addr a 1))
+    ∷ Some (call.Eager (arg a 0))
+    ∷ Some (call.CloneRegion (arg a 0) (addr a 1) (arg a 2))
+    ∷ Some (call.Clone (arg a 0) (arg a 1))
+    ∷ Some (call.Protect (arg a 0) (addr a 1) (arg a 2))
+    ∷ Some (call.Pin (arg a 0) (addr a 1))
+    ∷ Some (call.Unpin (arg a 0) (addr a 1))
+    ∷ Some (call.Load (arg a 0) (addr a 1))
     ∷ only (ltb (arg a 2) 256) (call.Store (arg a 0) (addr a 1) (arg a 2))
     ∷ []
 
-unfoldable pub call_of : ℕ → List ℕ → Numbered
+unfoldable pub call_of : ℕ → List ℕ → Option Call
 call_of number a = get_or (calls a) number None
 
 -- how many arguments each has, by number

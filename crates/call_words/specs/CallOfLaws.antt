@@ -1,5 +1,5 @@
 -- The ways through the numbering.
-use Rattle.std.specs.Prelude.{◌≡◌, refl, Bool, true, false, List, ℕ, zero, suc, ◌+◌, ◌≤◌, ◌<◌}
+use Rattle.std.specs.Prelude.{◌≡◌, refl, Bool, true, false, List, ℕ, zero, suc, ◌+◌, ◌≤◌, ◌<◌, Option, Some, None}
 use Rattle.std.proofs.Common.{sym, ap, ◌∙◌, arith, lt-ltb, le-ltb}
 use Rattle.std.proofs.Math.ListN.{get_or-eq_default}
 use Rattle.model.specs.declared.Call.{Call}
@@ -7,8 +7,6 @@ use Rattle.model.specs.declared.Call.TheVariants as call
 use Rattle.model.specs.declared.Place.{Place}
 use Rattle.model.specs.declared.Population.{Population}
 use Rattle.model.specs.declared.ForkPolicy.{ForkPolicy}
-use Rattle.call_words.specs.declared.Numbered.{Numbered}
-use Rattle.call_words.specs.declared.Numbered.TheVariants.{Is, None}
 use Rattle.call_words.specs.CallOf.{flagb, only, calls, call_of, counts, count_of}
 
 -- ---- a call that fits, and one that does not
@@ -16,7 +14,7 @@ use Rattle.call_words.specs.CallOf.{flagb, only, calls, call_of, counts, count_o
 pub only_not : (t : Bool) (c : Call) → t ≡ false → None ≡ only t c
 only_not t c e = rw e
 
-pub only_is : (t : Bool) (c d : Call) → t ≡ true → c ≡ d → Is c ≡ only t d
+pub only_is : (t : Bool) (c d : Call) → t ≡ true → c ≡ d → Some c ≡ only t d
 only_is t c d e p = rw (e, p)
 
 pub private_as : {p size flags : ℕ} {thread : Bool} {x y : Place} {u v : Population} {f g : ForkPolicy} → x ≡ y → u ≡ v → f ≡ g
@@ -38,7 +36,7 @@ is_flag x h = lt-ltb x 2 h
 
 -- ---- a number
 
-pub at_number : (a : List ℕ) (n k : ℕ) (r : Numbered) → n ≡ k → r ≡ call_of k a → r ≡ call_of n a
+pub at_number : (a : List ℕ) (n k : ℕ) (r : Option Call) → n ≡ k → r ≡ call_of k a → r ≡ call_of n a
 at_number a n k r e p = p ∙ ap (λ (x : ℕ). call_of x a) (sym e)
 
 -- no arm of k from `first` on is n's

@@ -7,15 +7,8 @@ ghost use Rattle.call_words.specs.CallOf.{call_of, private_of, file_of, place_of
 use address::VirtAddr;
 use model::{Call, ForkPolicy, Place, Population};
 
-// The call of a number, if it has one with these arguments.
-#[derive(Clone, Copy)]
-pub enum Numbered {
-    Is(Call),
-    None,
-}
-
 // The call of a number and its arguments, which are as many as the call takes and 0 behind them.
-pub fn call_of(number: u64, args: [u64; 10]) -> Numbered
+pub fn call_of(number: u64, args: [u64; 10]) -> Option<Call>
     ensures { result ≡ call_of number args }
 {
     if number < 13 {
@@ -25,7 +18,7 @@ pub fn call_of(number: u64, args: [u64; 10]) -> Numbered
 }
 
 // The calls on processes and whole regions.
-fn region_call(number: u64, args: [u64; 10]) -> Numbered
+fn region_call(number: u64, args: [u64; 10]) -> Option<Call>
     requires { number < 13 }
     ensures { result ≡ call_of number args }
 {
@@ -34,35 +27,35 @@ fn region_call(number: u64, args: [u64; 10]) -> Numbered
     let addr = VirtAddr(start);
     let end = args[2];
     match number {
-        1 => Numbered::Is(Call::Sound),
-        2 => Numbered::Is(Call::Open {
+        1 => Some(Call::Sound),
+        2 => Some(Call::Open {
             start: VirtAddr(process),
             size: start,
         }),
-        3 => Numbered::Is(Call::Close { process }),
+        3 => Some(Call::Close { process }),
         4 => private_call(args),
         5 => file_call(args),
         6 => shared_call(args),
-        7 => Numbered::Is(Call::Remove { process, addr }),
-        8 => Numbered::Is(Call::Clear { process }),
-        9 => Numbered::Is(Call::Carve {
+        7 => Some(Call::Remove { process, addr }),
+        8 => Some(Call::Clear { process }),
+        9 => Some(Call::Carve {
             process,
             start,
             end,
         }),
-        10 => Numbered::Is(Call::Covers {
+        10 => Some(Call::Covers {
             process,
             start,
             end,
         }),
-        11 => Numbered::Is(Call::Region { process, addr }),
-        12 => Numbered::Is(Call::Regions { process }),
-        _ => Numbered::None,
+        11 => Some(Call::Region { process, addr }),
+        12 => Some(Call::Regions { process }),
+        _ => None,
     }
 }
 
 // The calls on pages and bytes, and those that change regions.
-fn page_call(number: u64, args: [u64; 10]) -> Numbered
+fn page_call(number: u64, args: [u64; 10]) -> Option<Call>
     requires { 13 ≤ number }
     ensures { result ≡ call_of number args }
 {
@@ -73,36 +66,36 @@ fn page_call(number: u64, args: [u64; 10]) -> Numbered
     match number {
         13 => fault_call(args),
         14 => populate_call(args),
-        15 => Numbered::Is(Call::Eager { process }),
-        16 => Numbered::Is(Call::CloneRegion {
+        15 => Some(Call::Eager { process }),
+        16 => Some(Call::CloneRegion {
             process,
             addr,
             target: third,
         }),
-        17 => Numbered::Is(Call::Clone {
+        17 => Some(Call::Clone {
             process,
             target: second,
         }),
-        18 => Numbered::Is(Call::Protect {
+        18 => Some(Call::Protect {
             process,
             addr,
             flags: third,
         }),
-        19 => Numbered::Is(Call::Pin { process, addr }),
-        20 => Numbered::Is(Call::Unpin { process, addr }),
-        21 => Numbered::Is(Call::Load { process, addr }),
+        19 => Some(Call::Pin { process, addr }),
+        20 => Some(Call::Unpin { process, addr }),
+        21 => Some(Call::Load { process, addr }),
         22 => store_call(args),
-        _ => Numbered::None,
+        _ => None,
     }
 }
 
-fn private_call(args: [u64; 10]) -> Numbered
+fn private_call(args: [u64; 10]) -> Option<Call>
     ensures { result ≡ private_of args }
 {
     if !are_flags(args[1], args[3], args[6], args[7]) {
-        return Numbered::None;
+        return None;
     }
-    Numbered::Is(Call::CreatePrivate {
+    Some(Call::CreatePrivate {
         process: args[0],
         place: place_of(args[1], args[2]),
         population: population_of(args[3]),
@@ -113,13 +106,13 @@ fn private_call(args: [u64; 10]) -> Numbered
     })
 }
 
-fn file_call(args: [u64; 10]) -> Numbered
+fn file_call(args: [u64; 10]) -> Option<Call>
     ensures { result ≡ file_of args }
 {
     if !are_flags(args[1], args[5], args[6], 0) {
-        return Numbered::None;
+        return None;
     }
-    Numbered::Is(Call::CreateFile {
+    Some(Call::CreateFile {
         process: args[0],
         place: place_of(args[1], args[2]),
         size: args[3],
@@ -132,39 +125,39 @@ fn file_call(args: [u64; 10]) -> Numbered
     })
 }
 
-fn shared_call(args: [u64; 10]) -> Numbered
+fn shared_call(args: [u64; 10]) -> Option<Call>
     ensures { result ≡ call_of 6 args }
 {
     if 2 <= args[1] {
-        return Numbered::None;
+        return None;
     }
-    Numbered::Is(Call::CreateShared {
+    Some(Call::CreateShared {
         process: args[0],
         place: place_of(args[1], args[2]),
         size: args[3],
     })
 }
 
-fn fault_call(args: [u64; 10]) -> Numbered
+fn fault_call(args: [u64; 10]) -> Option<Call>
     ensures { result ≡ call_of 13 args }
 {
     if 2 <= args[2] {
-        return Numbered::None;
+        return None;
     }
-    Numbered::Is(Call::Fault {
+    Some(Call::Fault {
         process: args[0],
         addr: VirtAddr(args[1]),
         write: args[2] == 1,
     })
 }
 
-fn populate_call(args: [u64; 10]) -> Numbered
+fn populate_call(args: [u64; 10]) -> Option<Call>
     ensures { result ≡ call_of 14 args }
 {
     if 2 <= args[3] {
-        return Numbered::None;
+        return None;
     }
-    Numbered::Is(Call::Populate {
+    Some(Call::Populate {
         process: args[0],
         addr: VirtAddr(args[1]),
         len: args[2],
@@ -172,14 +165,14 @@ fn populate_call(args: [u64; 10]) -> Numbered
     })
 }
 
-fn store_call(args: [u64; 10]) -> Numbered
+fn store_call(args: [u64; 10]) -> Option<Call>
     ensures { result ≡ call_of 22 args }
 {
     let byte = args[2];
     if 256 <= byte {
-        return Numbered::None;
+        return None;
     }
-    Numbered::Is(Call::Store {
+    Some(Call::Store {
         process: args[0],
         addr: VirtAddr(args[1]),
         byte: byte as u8,

@@ -1,12 +1,12 @@
 -- From the soundness test and a core to a call on any lent memory.
-use Rattle.std.specs.Prelude.{◌≡◌, ℕ, Bool, true, false, cond, ◌&&◌, List, [], length, ◌==◌}
+use Rattle.std.specs.Prelude.{◌≡◌, ℕ, Bool, true, false, cond, ◌&&◌, List, [], length, ◌==◌, Ok, Err, Result, ⊤}
 use Rattle.std.proofs.Math.Path.{refl, sym}
-use Rattle.std.proofs.Common.{ap, eqb-true, eq-eqb}
+use Rattle.std.proofs.Common.{ap, ◌∙◌, subst, eqb-true, eq-eqb}
 use Rattle.std.proofs.lemmas.Bool.{false≢true}
 use Rattle.laws.specs.BoolLaws.{both_true}
+use Rattle.laws.specs.ResultLaws.{ok_not_err, err_same}
 use Rattle.answers.specs.declared.Refusal.{Refusal}
 use Rattle.answers.specs.declared.Refusal.TheVariants.{BadTable}
-use Rattle.model.specs.declared.Done.TheVariants.{Yes, No}
 use Rattle.model.specs.Machine.{State}
 use Rattle.model.specs.Layout.{word_count}
 use Rattle.model.specs.Answers.{After, leaving}
@@ -76,6 +76,30 @@ module _ {A : Type 0} (refusal : Refusal → A) (call : State → After A) (refu
   refused_whole = (bad_table, record { machine = λ e. sym (ap (λ x. x.state) (refuses (state_of w f b) (unsound_state e))); other = λ _. (refl, refl) })
 
 -- the test as a call
-pub sound_answers : (w : List ℕ) → OnSound sound w Yes
+pub sound_answers : (w : List ℕ) → OnSound sound w (Ok tt)
 unfolding sound
-sound_answers w f b e = sym (ap (λ x. x.answer) (granted (state_of w f b) No [] _ e first_none))
+sound_answers w f b e = sym (ap (λ x. x.answer) (granted (state_of w f b) Err [] _ e first_none))
+
+-- ---- the test as a refusal
+
+module _ (w f b : List ℕ) {r : Result ⊤ Refusal} (told : r ≡ cond (sound_lent w f b) (Ok tt) (Err BadTable)) where
+  tells : (x : Bool) → sound_lent w f b ≡ x → r ≡ cond x (Ok tt) (Err BadTable)
+  tells x e = told ∙ ap (λ y. cond y (Ok tt) (Err BadTable)) e
+
+  pub tested : r ≡ Ok tt → sound_lent w f b ≡ true
+  tested p = go (sound_lent w f b) refl
+    where
+      go : (x : Bool) → sound_lent w f b ≡ x → sound_lent w f b ≡ true
+      go true e = e
+      go false e = absurd (ok_not_err (sym p ∙ tells false e))
+
+  module _ {A : Type 0} (call : State → After (Result A Refusal)) (refuses : (s : State) → soundb s ≡ false → call s ≡ leaving (Err BadTable) s) (e : Refusal) (p : r ≡ Err e) where
+    pub untested_whole : (Err e ≡ answer_on Err call w f b) × Leaves call w f b w f
+    untested_whole = go (sound_lent w f b) refl
+      where
+        go : (x : Bool) → sound_lent w f b ≡ x → (Err e ≡ answer_on Err call w f b) × Leaves call w f b w f
+        go true q = absurd (ok_not_err (sym (tells true q) ∙ p))
+        go false q = subst (λ (d : Refusal). (Err d ≡ answer_on Err call w f b) × Leaves call w f b w f) (err_same (sym (tells false q) ∙ p)) (refused_whole Err call refuses w f b q)
+
+    pub untested : Err e ≡ answer_on Err call w f b
+    untested = untested_whole.0

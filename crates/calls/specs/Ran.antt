@@ -1,11 +1,10 @@
 -- Any call, by one function: what it answers and leaves of the lent memory, the memory for starts among it (RULES D1, E1, O1, O2).
-use Rattle.std.specs.Prelude.{◌≡◌, ℕ, Bool, false, cond, List, length, replicate, ◌≢◌}
+use Rattle.std.specs.Prelude.{◌≡◌, ℕ, Bool, false, cond, List, length, replicate, ◌≢◌, Err}
 use Rattle.answers.specs.declared.Refusal.{Refusal}
 use Rattle.answers.specs.declared.Refusal.TheVariants.{BadTable}
 use Rattle.model.specs.declared.Answer.{Answer}
 use Rattle.model.specs.declared.Call.{Call}
 use Rattle.model.specs.declared.Counted.{Counted}
-use Rattle.model.specs.declared.Done.TheVariants.{No}
 use Rattle.model.specs.Answers.{Reply}
 use Rattle.model.specs.Meant.{meant, reply, refused, counts}
 use Rattle.model.specs.Run.{call}
@@ -18,7 +17,7 @@ no_starts = replicate 64 0
 
 -- a refusal of a call that lists them
 abbrev pub none_for : Refusal → Counted
-none_for why = record { done = No why; count = 0 }
+none_for why = record { done = Err why; count = 0 }
 
 -- what a refusal leaves of the memory for starts
 abbrev pub starts_refused : Bool → List ℕ → List ℕ

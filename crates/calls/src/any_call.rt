@@ -5,7 +5,7 @@ ghost use Rattle.model.specs.Meant as meant;
 ghost use Rattle.calls.specs.Ran.{Ran, no_starts, starts_refused, none_for};
 
 use answers::Refusal;
-use model::{Answer, Call, Counted, Done, SLOTS};
+use model::{Answer, Call, Counted, SLOTS};
 use regions::list::put_zeros;
 use soundness::is_sound;
 use step::answer::{is_counted, refused};
@@ -49,7 +49,7 @@ pub fn none() -> Counted
     ensures { result ≡ none_for BadTable }
 {
     Counted {
-        done: Done::No(Refusal::BadTable),
+        done: Err(Refusal::BadTable),
         count: 0,
     }
 }

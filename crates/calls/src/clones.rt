@@ -1,6 +1,5 @@
 // Clones: of a region, and of a process.
-ghost use Rattle.std.specs.Prelude.{◌≡◌};
-ghost use Rattle.model.specs.declared.Done.TheVariants as done;
+ghost use Rattle.std.specs.Prelude.{◌≡◌, Err};
 ghost use Rattle.model.specs.Calls.{clone_region, clone};
 ghost use Rattle.calls.specs.Answered.{answer_on, Leaves};
 
@@ -8,8 +7,7 @@ use address::VirtAddr;
 use answers::Refusal;
 use clone_process::clone_core;
 use clone_region::clone_region_core;
-use model::Done;
-use soundness::is_sound;
+use soundness::check_sound;
 
 // Clones the region at an address into a process, at the same address.
 pub fn clone_region(
@@ -19,23 +17,25 @@ pub fn clone_region(
     process: u64,
     addr: VirtAddr,
     target: u64,
-) -> Done
-    ensures value { result ≡ answer_on done.No (λ s. clone_region s process addr.0 target) words.old frames.old files.now }
+) -> Result<(), Refusal>
+    ensures value { result ≡ answer_on Err (λ s. clone_region s process addr.0 target) words.old frames.old files.now }
     ensures leaves { Leaves (λ s. clone_region s process addr.0 target) words.old frames.old files.now words.new frames.new }
 {
-    if !is_sound(&words[..], &frames[..], files) {
-        return Done::No(Refusal::BadTable);
-    }
+    check_sound(&words[..], &frames[..], files)?;
     clone_region_core(words, frames, process, addr, target)
 }
 
 // Clones every region of a process that is not per-thread into another, in list order, up to the first refusal.
-pub fn clone(words: &mut [u64], frames: &mut [u8], files: &[u8], process: u64, target: u64) -> Done
-    ensures value { result ≡ answer_on done.No (λ s. clone s process target) words.old frames.old files.now }
+pub fn clone(
+    words: &mut [u64],
+    frames: &mut [u8],
+    files: &[u8],
+    process: u64,
+    target: u64,
+) -> Result<(), Refusal>
+    ensures value { result ≡ answer_on Err (λ s. clone s process target) words.old frames.old files.now }
     ensures leaves { Leaves (λ s. clone s process target) words.old frames.old files.now words.new frames.new }
 {
-    if !is_sound(&words[..], &frames[..], files) {
-        return Done::No(Refusal::BadTable);
-    }
+    check_sound(&words[..], &frames[..], files)?;
     clone_core(words, frames, process, target)
 }

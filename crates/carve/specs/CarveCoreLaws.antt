@@ -1,5 +1,5 @@
 -- The core of carve: the bounds, the array, the range carved; and the call's refusals.
-use Rattle.std.specs.Prelude.{◌≡◌, refl, true, false, ◌||◌, not, List, ◌++◌, ℕ, ◌+◌, ◌-◌, ◌%◌, ◌≤◌, ◌<◌, length, take, drop, replicate, ltb}
+use Rattle.std.specs.Prelude.{◌≡◌, refl, true, false, ◌||◌, not, List, ◌++◌, ℕ, ◌+◌, ◌-◌, ◌%◌, ◌≤◌, ◌<◌, length, take, drop, replicate, ltb, Result, Err, ⊤}
 use Rattle.std.proofs.Math.Path.{ap}
 use Rattle.std.proofs.Common.{sym, subst, ◌∙◌, arith, take_all, eqb-true, eq-eqb, ne_eqb, lt-ltb, le-ltb}
 use Rattle.std.proofs.lemmas.List.Edits.{sets, sets-eq}
@@ -8,8 +8,6 @@ use Rattle.std.proofs.lemmas.Bool.{not-false}
 use Rattle.address.specs.Pages.{aligned}
 use Rattle.answers.specs.declared.Refusal.{Refusal}
 use Rattle.answers.specs.declared.Refusal.TheVariants.{NoProcess, BadRange}
-use Rattle.model.specs.declared.Done.{Done}
-use Rattle.model.specs.declared.Done.TheVariants.{No}
 use Rattle.model.specs.declared.Listed.{Listed}
 use Rattle.model.specs.Machine.{Machine, State, with_order, order_of, process_at, user_end}
 use Rattle.model.specs.Layout.{machine}
@@ -82,23 +80,23 @@ module _ (w : List ℕ) (p a e : ℕ) (k : Carvable w p a e) where
     unfolding carve_splits
     splits = λ i. carve_each (slots_are array new cut n long count most stored i) (taken i) p a e
 
-    pub carved : (d : Done) (u : List ℕ) → d ≡ (carve_each (slice new 0 n) (machine v) p a e).1 → machine u ≡ (carve_each (slice new 0 n) (machine v) p a e).0 → (r : Listed) → r ≡ carve_answer (machine u) p a e d → Carved (machine w) p a e (machine u) r
-    carved d u done left r h = (left ∙ ap (λ (z : Machine × Done). z.0) splits, h ∙ ap (λ (z : Done). carve_answer (machine u) p a e z) (done ∙ ap (λ (z : Machine × Done). z.1) splits))
+    pub carved : (d : Result ⊤ Refusal) (u : List ℕ) → d ≡ (carve_each (slice new 0 n) (machine v) p a e).1 → machine u ≡ (carve_each (slice new 0 n) (machine v) p a e).0 → (r : Listed) → r ≡ carve_answer (machine u) p a e d → Carved (machine w) p a e (machine u) r
+    carved d u done left r h = (left ∙ ap (λ (z : Machine × Result ⊤ Refusal). z.0) splits, h ∙ ap (λ (z : Result ⊤ Refusal). carve_answer (machine u) p a e z) (done ∙ ap (λ (z : Machine × Result ⊤ Refusal). z.1) splits))
 
 -- ---- the call
 
 module _ (w : List ℕ) (p a e : ℕ) where
   -- the head of a refusal, over an array of zeros
-  carve_refused : (r : Refusal) → No r ≡ first_of (carve_refusals (words_alone w) p a e) → (out : List ℕ) → out ≡ replicate 64 0 → DoesWords (λ s. calls.carve s p a e) w w (with_starts (record { done = No r; count = 0 }) out)
+  carve_refused : (r : Refusal) → Err r ≡ first_of (carve_refusals (words_alone w) p a e) → (out : List ℕ) → out ≡ replicate 64 0 → DoesWords (λ s. calls.carve s p a e) w w (with_starts (record { done = Err r; count = 0 }) out)
   unfolding calls.carve carve_refusals not_listed
-  carve_refused r h out zeros f b s = refused (state_of w f b) not_listed _ _ s r h ∙ ap (λ l. leaving (with_starts (record { done = No r; count = 0 }) l) (state_of w f b)) (sym zeros)
+  carve_refused r h out zeros f b s = refused (state_of w f b) not_listed _ _ s r h ∙ ap (λ l. leaving (with_starts (record { done = Err r; count = 0 }) l) (state_of w f b)) (sym zeros)
 
-  pub carve_closed : is_open (machine w) p ≡ false → (out : List ℕ) → out ≡ replicate 64 0 → DoesWords (λ s. calls.carve s p a e) w w (with_starts (record { done = No NoProcess; count = 0 }) out)
+  pub carve_closed : is_open (machine w) p ≡ false → (out : List ℕ) → out ≡ replicate 64 0 → DoesWords (λ s. calls.carve s p a e) w w (with_starts (record { done = Err NoProcess; count = 0 }) out)
   unfolding carve_refusals
   carve_closed o = carve_refused NoProcess (first_here _ NoProcess _ (not_no _ o))
 
   module _ (o : is_open (machine w) p ≡ true) where
-    pub carve_bounds : bad_bounds a e ≡ true → (out : List ℕ) → out ≡ replicate 64 0 → DoesWords (λ s. calls.carve s p a e) w w (with_starts (record { done = No BadRange; count = 0 }) out)
+    pub carve_bounds : bad_bounds a e ≡ true → (out : List ℕ) → out ≡ replicate 64 0 → DoesWords (λ s. calls.carve s p a e) w w (with_starts (record { done = Err BadRange; count = 0 }) out)
     unfolding carve_refusals
     carve_bounds g = carve_refused BadRange (first_later _ NoProcess _ _ (not_yes _ o) (first_here _ BadRange _ g))
 

@@ -1,14 +1,8 @@
 -- The walk over the regions that are taken out (RULES V3).
-use Rattle.std.specs.Prelude.{◌≡◌, Bool, true, false, List, ℕ, ◌%◌}
-use Rattle.model.specs.declared.Done.{Done}
-use Rattle.model.specs.declared.Done.TheVariants.{Yes, No}
+use Rattle.std.specs.Prelude.{◌≡◌, List, ℕ, ◌%◌}
 use Rattle.model.specs.Machine.{Machine}
 use Rattle.keeping.specs.Owing.{nothing}
 use Rattle.keeping.specs.CarveKept.{Passes}
-
-abbrev pub is_no : Done → Bool
-is_no Yes = false
-is_no (No r) = true
 
 -- nothing beside the rules: what carve alone asks of each split
 abbrev pub Anything : Machine → Type 0

@@ -15,9 +15,7 @@ pub fn put_back(words: &mut [u64], out: &[u64], from: usize, to: usize, process:
     requires rooms { Rooms process (slice out.now from to) (machine words.old) }
     ensures { machine words.new ≡ push_all process (slice out.now from to) (machine words.old) }
 {
-    let mut i = from;
-    while i < to {
+    for i in from..to {
         push(words, process, out[i] as usize);
-        i += 1;
     }
 }

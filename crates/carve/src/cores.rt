@@ -13,7 +13,7 @@ use answers::Refusal;
 use carve_inside::answer::carve_answer;
 use carve_taken::take_out;
 use lookup::search::is_open;
-use model::{Counted, Done};
+use model::Counted;
 use regions::list::put_zeros;
 
 // Whether bounds are not page-aligned, in the wrong order, or past the user addresses (RULES V1).
@@ -54,13 +54,13 @@ fn carve_into(words: &mut [u64], out: &mut [u64], process: u64, start: u64, end:
 {
     if !is_open(&words[..], process) {
         return Counted {
-            done: Done::No(Refusal::NoProcess),
+            done: Err(Refusal::NoProcess),
             count: 0,
         };
     }
     if is_bad_bounds(start, end) {
         return Counted {
-            done: Done::No(Refusal::BadRange),
+            done: Err(Refusal::BadRange),
             count: 0,
         };
     }

@@ -3,21 +3,11 @@ ghost use Rattle.std.specs.Prelude.{◌≡◌, ◌<◌, ◌≤◌, length};
 ghost use Rattle.model.specs.Layout.{word_count, machine};
 ghost use Rattle.model.specs.Carve.{carve_each};
 ghost use Rattle.carve.specs.PutBack.{slice};
-ghost use Rattle.carve.specs.CarveWalk.{is_no, Ready};
+ghost use Rattle.carve.specs.CarveWalk.{Ready};
 
 use crate::back::put_back;
+use answers::Refusal;
 use carve_cut::one::carve_one;
-use model::Done;
-
-// Whether an answer is a refusal.
-fn is_no(done: Done) -> bool
-    ensures { result ≡ is_no done }
-{
-    match done {
-        Done::Yes => false,
-        Done::No(_) => true,
-    }
-}
 
 // Splits the first regions of `out`, so many, and puts their parts last in the list; after the first refusal the rest go back whole.
 pub fn carve_each(
@@ -27,7 +17,7 @@ pub fn carve_each(
     process: usize,
     start: u64,
     end: u64,
-) -> Done
+) -> Result<(), Refusal>
     requires words_len { length words.old ≡ word_count }
     requires out_len { length out.now ≡ 64 }
     requires count_bound { count ≤ 64 }
@@ -36,14 +26,11 @@ pub fn carve_each(
     ensures value { result ≡ (carve_each (slice out.now 0 count) (machine words.old) process start end).1 }
     ensures words_after { machine words.new ≡ (carve_each (slice out.now 0 count) (machine words.old) process start end).0 }
 {
-    let mut i = 0;
-    while i < count {
-        let done = carve_one(words, process, out[i] as usize, start, end);
-        if is_no(done) {
+    for i in 0..count {
+        if let Err(refusal) = carve_one(words, process, out[i] as usize, start, end) {
             put_back(words, out, i, count, process);
-            return done;
+            return Err(refusal);
         }
-        i += 1;
     }
-    Done::Yes
+    Ok(())
 }

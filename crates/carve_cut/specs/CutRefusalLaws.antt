@@ -1,5 +1,5 @@
 -- Why a region is not split, test by test.
-use Rattle.std.specs.Prelude.{◌≡◌, Bool, ◌&&◌, List, [], ◌∷◌, ℕ, ◌+◌, ◌≤◌, ◌<◌, eqb, ltb}
+use Rattle.std.specs.Prelude.{◌≡◌, Bool, ◌&&◌, List, [], ◌∷◌, ℕ, ◌+◌, ◌≤◌, ◌<◌, eqb, ltb, Result, Ok, Err, ⊤}
 use Rattle.std.proofs.Math.Path.{refl, ap}
 use Rattle.std.proofs.Common.{sym, ◌∙◌, eq-eqb, ne_eqb, lt-ltb, le-ltb}
 use Rattle.std.proofs.Math.Bool.{true, false, not}
@@ -7,8 +7,6 @@ use native.Mathlib.Omega.{arith}
 use Rattle.answers.specs.declared.Refusal.{Refusal}
 use Rattle.answers.specs.declared.Refusal.TheVariants.{EagerBacking, Shared, InUse, TableFull}
 use Rattle.model.specs.declared.Region.{Region}
-use Rattle.model.specs.declared.Done.{Done}
-use Rattle.model.specs.declared.Done.TheVariants.{Yes, No}
 use Rattle.model.specs.Machine.{Machine, region_at}
 use Rattle.model.specs.Answers.{first_of}
 use Rattle.model.specs.Lookup.{is_ranged, is_shared, is_pinned, free_slots}
@@ -49,24 +47,24 @@ module _ (m : Machine) (p s a e : ℕ) (r : Region) (read : r ≡ region_at m p 
   abbrev tests : Region → List (Bool × Refusal)
   tests x = (is_ranged x && not (is_shared x), EagerBacking) ∷ (is_shared x, Shared) ∷ (is_pinned x, InUse) ∷ (ltb (free_slots m p) (slots_needed x a e), TableFull) ∷ []
 
-  told : (d : Done) → d ≡ first_of (tests r) → d ≡ first_of (split_refusals m p s a e)
+  told : (d : Result ⊤ Refusal) → d ≡ first_of (tests r) → d ≡ first_of (split_refusals m p s a e)
   unfolding split_refusals
   told d h = h ∙ ap (λ (x : Region). first_of (tests x)) read
 
-  pub refused_eager : true ≡ (is_ranged r && not (is_shared r)) → No EagerBacking ≡ first_of (split_refusals m p s a e)
+  pub refused_eager : true ≡ (is_ranged r && not (is_shared r)) → Err EagerBacking ≡ first_of (split_refusals m p s a e)
   refused_eager h = told _ (first_here _ EagerBacking _ (sym h))
 
   module _ (h : false ≡ (is_ranged r && not (is_shared r))) where
-    pub refused_shared : r.kind ≡ 3 → No Shared ≡ first_of (split_refusals m p s a e)
+    pub refused_shared : r.kind ≡ 3 → Err Shared ≡ first_of (split_refusals m p s a e)
     refused_shared k = told _ (first_later _ EagerBacking _ _ (sym h) (first_here _ Shared _ (eq-eqb r.kind 3 k)))
 
     module _ (k : r.kind ≡ 3 → ⊥) where
-      pub refused_pinned : 0 < r.pins → No InUse ≡ first_of (split_refusals m p s a e)
+      pub refused_pinned : 0 < r.pins → Err InUse ≡ first_of (split_refusals m p s a e)
       refused_pinned g = told _ (first_later _ EagerBacking _ _ (sym h) (first_later _ Shared _ _ (ne_eqb r.kind 3 k) (first_here _ InUse _ (lt-ltb 0 r.pins g))))
 
       module _ (g : r.pins ≤ 0) (free need : ℕ) (counted : free ≡ free_slots m p) (needed : need ≡ slots_needed r a e) where
-        pub refused_full : free < need → No TableFull ≡ first_of (split_refusals m p s a e)
+        pub refused_full : free < need → Err TableFull ≡ first_of (split_refusals m p s a e)
         refused_full f = told _ (first_later _ EagerBacking _ _ (sym h) (first_later _ Shared _ _ (ne_eqb r.kind 3 k) (first_later _ InUse _ _ (le-ltb 0 r.pins g) (first_here _ TableFull _ ((λ i. ltb (sym counted i) (sym needed i)) ∙ lt-ltb free need f)))))
 
-        pub not_refused : need ≤ free → Yes ≡ first_of (split_refusals m p s a e)
+        pub not_refused : need ≤ free → Ok tt ≡ first_of (split_refusals m p s a e)
         not_refused f = told _ (first_later _ EagerBacking _ _ (sym h) (first_later _ Shared _ _ (ne_eqb r.kind 3 k) (first_later _ InUse _ _ (le-ltb 0 r.pins g) (first_later _ TableFull _ _ ((λ i. ltb (sym counted i) (sym needed i)) ∙ le-ltb free need f) first_none))))

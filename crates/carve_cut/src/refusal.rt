@@ -8,7 +8,7 @@ ghost use Rattle.model.specs.Carve.{slots_needed, split_refusals};
 
 use answers::Refusal;
 use lookup::search::free_slots;
-use model::{Done, Region, SHARED, SLOTS};
+use model::{Region, SHARED, SLOTS};
 use rows::slots::region_at;
 use split_parts::is_strictly_inside;
 
@@ -45,7 +45,13 @@ fn is_eager(region: Region) -> bool
 }
 
 // Why the region in a slot is not split at the bounds of a range, or that it is.
-pub fn split_refusal(words: &[u64], process: usize, slot: usize, start: u64, end: u64) -> Done
+pub fn split_refusal(
+    words: &[u64],
+    process: usize,
+    slot: usize,
+    start: u64,
+    end: u64,
+) -> Result<(), Refusal>
     requires words_len { length words.now ≡ word_count }
     requires process_bound { process < 8 }
     requires slot_bound { slot < 64 }
@@ -53,16 +59,16 @@ pub fn split_refusal(words: &[u64], process: usize, slot: usize, start: u64, end
 {
     let region = region_at(words, process * SLOTS + slot);
     if is_eager(region) {
-        return Done::No(Refusal::EagerBacking);
+        return Err(Refusal::EagerBacking);
     }
     if region.kind == SHARED {
-        return Done::No(Refusal::Shared);
+        return Err(Refusal::Shared);
     }
     if 0 < region.pins {
-        return Done::No(Refusal::InUse);
+        return Err(Refusal::InUse);
     }
     if free_slots(words, process) < slots_needed(region, start, end) {
-        return Done::No(Refusal::TableFull);
+        return Err(Refusal::TableFull);
     }
-    Done::Yes
+    Ok(())
 }

@@ -1,5 +1,5 @@
 -- The starts of the regions inside a range, put one after the other, and the whole answer.
-use Rattle.std.specs.Prelude.{◌≡◌, refl, Bool, true, false, List, [], ◌∷◌, ◌++◌, ℕ, ◌+◌, ◌≤◌, length, set, drop, replicate}
+use Rattle.std.specs.Prelude.{◌≡◌, refl, Bool, true, false, List, [], ◌∷◌, ◌++◌, ℕ, ◌+◌, ◌≤◌, length, set, drop, replicate, Result, Ok, Err, ⊤}
 use Rattle.std.proofs.Math.Path.{ap}
 use Rattle.std.proofs.Common.{sym, ◌∙◌, arith}
 use Rattle.std.proofs.Math.Bool.{cond}
@@ -9,8 +9,6 @@ use Rattle.answers.specs.declared.Refusal.{Refusal}
 use Rattle.answers.specs.declared.Refusal.TheVariants.{InUse}
 use Rattle.model.specs.declared.Region.{Region}
 use Rattle.model.specs.declared.Listed.{Listed}
-use Rattle.model.specs.declared.Done.{Done}
-use Rattle.model.specs.declared.Done.TheVariants.{Yes, No}
 use Rattle.laws.specs.Lists.{keep, pad, any}
 use Rattle.laws.specs.ListsLaws.{keep_append, keep_most, fill_pad}
 use Rattle.model.specs.Machine.{Machine, region_at, order_of}
@@ -66,7 +64,7 @@ sets_zeros : (n : ℕ) (l : List ℕ) → length l ≤ n → sets (replicate n 0
 sets_zeros n l h = sets-eq l (replicate n 0) 0 (rw length-replicate (omega arith)) ∙ ap (λ (j : ℕ). l ++ drop j (replicate n 0)) (let e : 0 + length l ≡ length l = omega arith in e) ∙ fill_pad n 0 l h
 
 pub starts_all : (m : Machine) (p a e n : ℕ) → n ≡ length (order_of m p) → n ≤ 64 → (out new : List ℕ) → out ≡ replicate 64 0 → (k i : ℕ)
-    → Picked (starts_in m p a e) (order_of m p) n out 0 new k i → n ≤ i → with_starts (record { done = Yes; count = k }) new ≡ listing (starts_of m p (inside_of m p a e))
+    → Picked (starts_in m p a e) (order_of m p) n out 0 new k i → n ≤ i → with_starts (record { done = Ok tt; count = k }) new ≡ listing (starts_of m p (inside_of m p a e))
 unfolding listing inside_of
 starts_all m p a e n sized most out new zeros k i s h =
     let all = picked_all (starts_in m p a e) (starts_picked m p a e) (order_of m p) n sized out 0 new k i s h in
@@ -74,23 +72,23 @@ starts_all m p a e n sized most out new zeros k i s h =
     let few = s.0.1 in
     let low = s.0.0 in
     let starts = all.1 ∙ ap (λ l. sets l 0 (starts_in m p a e (order_of m p))) zeros ∙ sets_zeros 64 (starts_in m p a e (order_of m p)) (omega arith) in
-    λ q. record { done = Yes; count = all.0 q; starts = starts q }
+    λ q. record { done = Ok tt; count = all.0 q; starts = starts q }
 
 -- ---- the answer
 
-module _ (m : Machine) (p a e : ℕ) (d : Done) (out : List ℕ) where
-  pub answer_refused : (r : Refusal) → d ≡ No r → out ≡ replicate 64 0 → with_starts (record { done = No r; count = 0 }) out ≡ carve_answer m p a e d
+module _ (m : Machine) (p a e : ℕ) (d : Result ⊤ Refusal) (out : List ℕ) where
+  pub answer_refused : (r : Refusal) → d ≡ Err r → out ≡ replicate 64 0 → with_starts (record { done = Err r; count = 0 }) out ≡ carve_answer m p a e d
   unfolding carve_answer not_listed
-  answer_refused r told zeros = ap (λ l. with_starts (record { done = No r; count = 0 }) l) zeros ∙ ap (λ (t : Done). carve_answer m p a e t) (sym told)
+  answer_refused r told zeros = ap (λ l. with_starts (record { done = Err r; count = 0 }) l) zeros ∙ ap (λ (t : Result ⊤ Refusal). carve_answer m p a e t) (sym told)
 
-  module _ (told : d ≡ Yes) where
-    pub answer_pinned : true ≡ any (λ s. is_pinned (region_at m p s)) (inside_of m p a e) → out ≡ replicate 64 0 → with_starts (record { done = No InUse; count = 0 }) out ≡ carve_answer m p a e d
+  module _ (told : d ≡ Ok tt) where
+    pub answer_pinned : true ≡ any (λ s. is_pinned (region_at m p s)) (inside_of m p a e) → out ≡ replicate 64 0 → with_starts (record { done = Err InUse; count = 0 }) out ≡ carve_answer m p a e d
     unfolding carve_answer not_listed
     answer_pinned h zeros =
-        ap (λ l. with_starts (record { done = No InUse; count = 0 }) l) zeros
+        ap (λ l. with_starts (record { done = Err InUse; count = 0 }) l) zeros
         ∙ ap (λ (b : Bool). cond b (not_listed InUse) (listing (starts_of m p (inside_of m p a e)))) h
-        ∙ ap (λ (t : Done). carve_answer m p a e t) (sym told)
+        ∙ ap (λ (t : Result ⊤ Refusal). carve_answer m p a e t) (sym told)
 
     pub answer_listed : false ≡ any (λ s. is_pinned (region_at m p s)) (inside_of m p a e) → (l : Listed) → l ≡ listing (starts_of m p (inside_of m p a e)) → l ≡ carve_answer m p a e d
     unfolding carve_answer
-    answer_listed h l g = g ∙ ap (λ (b : Bool). cond b (not_listed InUse) (listing (starts_of m p (inside_of m p a e)))) h ∙ ap (λ (t : Done). carve_answer m p a e t) (sym told)
+    answer_listed h l g = g ∙ ap (λ (b : Bool). cond b (not_listed InUse) (listing (starts_of m p (inside_of m p a e)))) h ∙ ap (λ (t : Result ⊤ Refusal). carve_answer m p a e t) (sym told)

@@ -14,7 +14,7 @@ ghost use Rattle.carve_inside.specs.CarveAnswer.{starts_in};
 use crate::tests::lies_inside;
 use answers::Refusal;
 use lookup::attached::attached_count;
-use model::{Counted, Done, SLOTS};
+use model::{Counted, SLOTS};
 use regions::slot::region_in;
 use rows::slots::order_at;
 
@@ -40,12 +40,10 @@ fn pinned_inside(words: &[u64], process: usize, start: u64, end: u64) -> bool
     ensures { result ≡ any (λ s. is_pinned (region_at (machine words.now) process s)) (inside_of (machine words.now) process start end) }
 {
     let n = attached_count(words, process);
-    let mut i = 0;
-    while i < n {
+    for i in 0..n {
         if is_pinned_at(words, process, i, start, end) {
             return true;
         }
-        i += 1;
     }
     false
 }
@@ -86,13 +84,11 @@ fn starts_inside(words: &[u64], out: &mut [u64], process: usize, start: u64, end
 {
     let n = attached_count(words, process);
     let mut found = 0;
-    let mut i = 0;
-    while i < n {
+    for i in 0..n {
         found = put_start(words, out, process, i, found, start, end);
-        i += 1;
     }
     Counted {
-        done: Done::Yes,
+        done: Ok(()),
         count: found as u64,
     }
 }
@@ -101,7 +97,7 @@ fn starts_inside(words: &[u64], out: &mut [u64], process: usize, start: u64, end
 pub fn carve_answer(
     words: &[u64],
     out: &mut [u64],
-    splits: Done,
+    splits: Result<(), Refusal>,
     process: usize,
     start: u64,
     end: u64,
@@ -111,21 +107,17 @@ pub fn carve_answer(
     requires process_bound { process < 8 }
     ensures { with_starts result out.new ≡ carve_answer (machine words.now) process start end splits }
 {
-    match splits {
-        Done::No(refusal) => {
-            return Counted {
-                done: Done::No(refusal),
-                count: 0,
-            };
-        }
-        Done::Yes => {
-            if pinned_inside(words, process, start, end) {
-                return Counted {
-                    done: Done::No(Refusal::InUse),
-                    count: 0,
-                };
-            }
-            return starts_inside(words, out, process, start, end);
-        }
+    if let Err(refusal) = splits {
+        return Counted {
+            done: Err(refusal),
+            count: 0,
+        };
     }
+    if pinned_inside(words, process, start, end) {
+        return Counted {
+            done: Err(Refusal::InUse),
+            count: 0,
+        };
+    }
+    starts_inside(words, out, process, start, end)
 }

@@ -56,10 +56,8 @@ fn cut_slots(words: &[u64], out: &mut [u64], process: usize, start: u64, end: u6
 {
     let n = attached_count(words, process);
     let mut found = 0;
-    let mut i = 0;
-    while i < n {
+    for i in 0..n {
         found = put_slot(words, out, process, i, found, start, end);
-        i += 1;
     }
     found
 }
@@ -99,10 +97,8 @@ fn retain_whole(words: &mut [u64], process: usize, start: u64, end: u64) -> usiz
 {
     let n = attached_count(&words[..], process);
     let mut kept = 0;
-    let mut i = 0;
-    while i < n {
+    for i in 0..n {
         kept = keep_place(words, process, i, kept, start, end);
-        i += 1;
     }
     kept
 }

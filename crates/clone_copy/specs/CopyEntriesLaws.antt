@@ -1,13 +1,11 @@
 -- The walk through the entries that are copied.
-use Rattle.std.specs.Prelude.{◌≡◌, ◌≢◌, cond, ℕ, zero, suc, ◌+◌, ◌-◌, ◌^◌, ◌≤◌, ◌<◌, get_or, eqb}
+use Rattle.std.specs.Prelude.{◌≡◌, ◌≢◌, cond, ℕ, zero, suc, ◌+◌, ◌-◌, ◌^◌, ◌≤◌, ◌<◌, get_or, eqb, Option, Some, None}
 use Rattle.std.proofs.Math.Path.{refl, ap, sym, subst}
 use Rattle.std.proofs.Common.{◌∙◌, arith, ne_eqb}
 use mathlib.Core.List.{List, [], ◌∷◌}
 use Rattle.std.proofs.Math.Decide.{ℕ_discrete}
 use Rattle.std.proofs.Math.ListN.{length}
 use Rattle.model.specs.declared.Entry.{Entry}
-use Rattle.model.specs.declared.Found.{Found}
-use Rattle.model.specs.declared.Found.TheVariants.{At, Nothing}
 use Rattle.laws.specs.Lists.{each}
 use Rattle.model.specs.Layout.{machine}
 use Rattle.model.specs.Machine.{Machine, State, no_entry}
@@ -40,9 +38,9 @@ pub single_alike : (t u : List Entry) (src : ℕ) → Alike t u src → single_p
 single_alike t u src a = pages_same t u src a.long a.same a.other
 
 -- the entry that was read is the next
-module _ (m : Machine) (size src page i : ℕ) (x : Entry) (found : next_entry m.entries src page ≡ At i) (read : x ≡ get_or m.entries i no_entry) (k : CopyNext m size src page) where
+module _ (m : Machine) (size src page i : ℕ) (x : Entry) (found : next_entry m.entries src page ≡ Some i) (read : x ≡ get_or m.entries i no_entry) (k : CopyNext m size src page) where
   is_next : x ≡ next_at m.entries src page
-  is_next = read ∙ ap (λ (f : Found). get_or m.entries (row_found f) no_entry) (sym found)
+  is_next = read ∙ ap (λ (f : Option ℕ). get_or m.entries (row_found f) no_entry) (sym found)
 
   pub next_can : CanCopy m size x.frame.0
   next_can = subst (λ (y : Entry). CanCopy m size y.frame.0) (sym is_next) k.can
@@ -79,20 +77,20 @@ module _ (w₀ f₀ : List ℕ) (src row : ℕ) (s : SingleCopy (machine w₀) (
 
     record Next : Type 0 where
       at : ℕ
-      found : next_entry t src k ≡ At at
-      here : next_entry n.entries src k ≡ At at
+      found : next_entry t src k ≡ Some at
+      here : next_entry n.entries src k ≡ Some at
       owner : (get_or t at no_entry).owner ≡ src + 1
       same : next_at n.entries src k ≡ get_or t at no_entry
 
     next : Next
     next = go (next_entry t src k) refl
       where
-        go : (x : Found) → next_entry t src k ≡ x → Next
-        go Nothing e = let none = ap (λ l. length l) (walk_end t src k e) in let size = g.count in absurd (omega arith)
-        go (At j) e =
+        go : (x : Option ℕ) → next_entry t src k ≡ x → Next
+        go None e = let none = ap (λ l. length l) (walk_end t src k e) in let size = g.count in absurd (omega arith)
+        go (Some j) e =
             let here = next_alike t n.entries src k g.room.alike ∙ e in
             let owner = (next_found t src k j e).1.owned in
-            record { at = j; found = e; here = here; owner = owner; same = ap (λ (x : Found). get_or n.entries (row_found x) no_entry) here ∙ g.room.alike.same j owner }
+            record { at = j; found = e; here = here; owner = owner; same = ap (λ (x : Option ℕ). get_or n.entries (row_found x) no_entry) here ∙ g.room.alike.same j owner }
 
     abbrev e : Entry
     e = get_or t next.at no_entry
@@ -101,7 +99,7 @@ module _ (w₀ f₀ : List ℕ) (src row : ℕ) (s : SingleCopy (machine w₀) (
     single_next =
         let page = s.pages next.at next.owner in
         let same = ap (λ (x : Entry). x.page.0) next.same in
-        record { found = ap (λ (x : Found). is_found x) next.here; can = subst (λ (x : Entry). CanCopy n (length f) x.frame.0) (sym next.same) (room_can t n src m.frame_count left g.room (omega arith) (length f) e.frame.0 (g.frames ∙ s.bytes) (s.frames next.at next.owner)); page = omega arith }
+        record { found = ap (λ (x : Option ℕ). is_found x) next.here; can = subst (λ (x : Entry). CanCopy n (length f) x.frame.0) (sym next.same) (room_can t n src m.frame_count left g.room (omega arith) (length f) e.frame.0 (g.frames ∙ s.bytes) (s.frames next.at next.owner)); page = omega arith }
 
     walked : pages_from k t src ≡ held_of e ∷ pages_from (e.page.0 + 1) t src
     walked = walk_on t src k s.once next.at next.found

@@ -1,7 +1,6 @@
 -- A region's clone that copies: from what the parts leave to the model's copy_into (RULES K1, K3).
-use Rattle.std.specs.Prelude.{◌≡◌, ◌≢◌, List, ◌++◌, ℕ, ◌+◌, ◌*◌, ◌^◌, ◌≤◌, ◌<◌, length, get_or}
+use Rattle.std.specs.Prelude.{◌≡◌, ◌≢◌, List, ◌++◌, ℕ, ◌+◌, ◌*◌, ◌^◌, ◌≤◌, ◌<◌, length, get_or, Some}
 use Rattle.model.specs.declared.Region.{Region}
-use Rattle.model.specs.declared.Found.TheVariants.{At}
 use Rattle.laws.specs.Lists.{each}
 use Rattle.model.specs.Layout.{machine}
 use Rattle.model.specs.Machine.{Machine, region_at, no_entry}
@@ -38,7 +37,7 @@ PagesCopied w f src row r w' f' = (files : List ℕ) → state_of w' f' files �
 pub record Copyable (w f : List ℕ) (p s q i : ℕ) : Type 0 where
   pub sound : SoundFrames w f
   pub used : (region_at (machine w) p s).kind ≢ 0
-  pub slot : free_slot (machine w) q ≡ At i
+  pub slot : free_slot (machine w) q ≡ Some i
   pub left : length (backed_pages (machine w) p s) ≤ free_entries (machine w)
   pub free : length (backed_pages (machine w) p s) ≤ (machine w).pool.free
 

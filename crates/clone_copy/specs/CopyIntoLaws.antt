@@ -1,5 +1,5 @@
 -- From what the parts of a clone that copies leave to the model's copy_into.
-use Rattle.std.specs.Prelude.{◌≡◌, ◌≢◌, Bool, List, [], ◌∷◌, ◌++◌, ℕ, zero, suc, ◌+◌, ◌-◌, ◌*◌, ◌^◌, ◌≤◌, ◌<◌, get_or}
+use Rattle.std.specs.Prelude.{◌≡◌, ◌≢◌, Bool, List, [], ◌∷◌, ◌++◌, ℕ, zero, suc, ◌+◌, ◌-◌, ◌*◌, ◌^◌, ◌≤◌, ◌<◌, get_or, Option}
 use Rattle.std.proofs.Math.Path.{refl, ap, sym, subst}
 use Rattle.std.proofs.Common.{◌∙◌, arith, length-append}
 use Rattle.std.proofs.Math.Bool.{true, false, cond}
@@ -7,7 +7,6 @@ use Rattle.std.proofs.Math.ListN.{length}
 use Rattle.std.proofs.Math.Dec.{eqb}
 use Rattle.model.specs.declared.Region.{Region}
 use Rattle.model.specs.declared.Entry.{Entry}
-use Rattle.model.specs.declared.Found.{Found}
 use Rattle.laws.specs.Lists.{each, count}
 use Rattle.model.specs.Layout.{machine}
 use Rattle.model.specs.Machine.{Machine, State, process_at, region_at, row_of, with_order, no_entry, no_region}
@@ -197,4 +196,4 @@ module _ (w f : List ℕ) (p s q i : ℕ) (p_low : p < 8) (s_low : s < 64) (q_lo
         pages files
         ∙ (λ t. each (copy_entry (row_of q i)) (pages_of (v_is t) src (read t)) (record { machine = v_is t; frames = f; bytes = files }))
         ∙ ap (λ l. each (copy_entry (row_of q i)) l (record { machine = add_region n q (copied_row r); frames = f; bytes = files })) same_pages
-        ∙ ap (λ (z : Found). each (copy_entry (row_of q (row_found z))) (backed_pages n p s) (record { machine = add_region n q (copied_row r); frames = f; bytes = files })) (sym k.slot)
+        ∙ ap (λ (z : Option ℕ). each (copy_entry (row_of q (row_found z))) (backed_pages n p s) (record { machine = add_region n q (copied_row r); frames = f; bytes = files })) (sym k.slot)

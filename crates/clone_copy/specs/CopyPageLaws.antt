@@ -1,11 +1,9 @@
 -- Laws of copying one page, and of the room that is left.
-use Rattle.std.specs.Prelude.{◌≡◌, refl, ◌≢◌, Bool, true, false, List, ℕ, ◌+◌, ◌-◌, ◌*◌, ◌≤◌, ◌<◌, length}
+use Rattle.std.specs.Prelude.{◌≡◌, refl, ◌≢◌, Bool, true, false, List, ℕ, ◌+◌, ◌-◌, ◌*◌, ◌≤◌, ◌<◌, length, Option, Some, None}
 use Rattle.std.proofs.Math.Path.{ap}
 use Rattle.std.proofs.Common.{sym, subst, ◌∙◌, arith}
 use Rattle.std.proofs.Math.Bool.{cond}
 use Rattle.model.specs.declared.Entry.{Entry}
-use Rattle.model.specs.declared.Found.{Found}
-use Rattle.model.specs.declared.Found.TheVariants.{At, Nothing}
 use Rattle.model.specs.Machine.{Machine}
 use Rattle.model.specs.Lookup.{is_found, free_entry, free_entries}
 use Rattle.model.specs.Backing.{claim, add_entry, with_backings, frame_bytes, put_frame, entry_for}
@@ -19,13 +17,13 @@ use Rattle.clone_share.specs.EntryPutLaws.{entry_found, ready_entries, added_few
 use Rattle.clone_copy.specs.CopyPage.{copied_machine, copied_frames, bare_machine, bare_frames, CanCopy, Room}
 
 module _ (m : Machine) (size from : ℕ) (k : CanCopy m size from) where
-  pub frame_there : next_frame m ≡ Nothing → ⊥
+  pub frame_there : next_frame m ≡ None → ⊥
   frame_there e = let none = ap (λ l. length l) (taken_none m k.ready e).0 in let free = k.ready.r2.free in let some = k.free in omega arith
 
   pub from_inside : from * 4096 + 4096 ≤ size
   from_inside = let low = k.inside in let long = k.bytes in omega arith
 
-  module _ (f : ℕ) (e : next_frame m ≡ At f) where
+  module _ (f : ℕ) (e : next_frame m ≡ Some f) where
     taken : Taken m f
     taken = taken_at m k.ready f e
 
@@ -92,12 +90,12 @@ module _ (t : List Entry) (n : Machine) (src row count left page : ℕ) (k : Roo
   abbrev f : ℕ
   f = n.pool.next.0
 
-  found : next_frame n ≡ At f
+  found : next_frame n ≡ Some f
   found = go (next_frame n) refl
     where
-      go : (x : Found) → next_frame n ≡ x → x ≡ At f
-      go Nothing e = let none = ap (λ l. length l) (taken_none n k.ready e).0 in let free = k.ready.r2.free in let most = k.free in absurd (omega arith)
-      go (At g) e = ap (λ (x : ℕ). At x) (taken_at n k.ready g e).lowest
+      go : (x : Option ℕ) → next_frame n ≡ x → x ≡ Some f
+      go None e = let none = ap (λ l. length l) (taken_none n k.ready e).0 in let free = k.ready.r2.free in let most = k.free in absurd (omega arith)
+      go (Some g) e = ap (λ (x : ℕ). Some x) (taken_at n k.ready g e).lowest
 
   run : FreeRun n f 1
   run = (taken_at n k.ready f found).run
@@ -134,4 +132,4 @@ copy_state row h n l b = refl
 
 pub entry_alike : (t : List Entry) (m n : Machine) (src page : ℕ) → t ≡ m.entries → Alike t n.entries src → is_found (entry_for n src page) ≡ is_found (entry_for m src page)
 unfolding entry_for
-entry_alike t m n src page e a = ap (λ (x : Found). is_found x) (found_alike m.entries n.entries src page (subst (λ l. Alike l n.entries src) e a))
+entry_alike t m n src page e a = ap (λ (x : Option ℕ). is_found x) (found_alike m.entries n.entries src page (subst (λ l. Alike l n.entries src) e a))

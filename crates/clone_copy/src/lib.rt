@@ -12,14 +12,13 @@ ghost use Rattle.clone_copy.specs.CopyRange.{RangeCopy, RangeCopied};
 ghost use Rattle.clone_copy.specs.CopyEntries.{CopyNext, SingleCopy, SinglesCopied};
 ghost use Rattle.clone_copy.specs.CopyInto.{PagesCopy, PagesCopied, Copyable, CopiedInto};
 
-use address::{Page, PageTableFlags, PhysFrame, VirtAddr};
-use backing::free::FoundFrame;
+use address::{Page, PhysFrame};
 use backing::holders::take_frame;
-use clone_pages::{add_entry, is_shadowed, nth_page, range_len, single_count};
+use clone_pages::{is_shadowed, nth_page, range_len, single_count};
 use frames::copy;
 use lookup::backed::next_entry;
-use model::{Found, Region, SLOTS};
-use regions::add::add_region;
+use model::{Region, SLOTS};
+use regions::add::{add_entry, add_region};
 use regions::slot::region_in;
 use rows::pages::entry_at;
 
@@ -31,7 +30,7 @@ fn copy_entry(words: &mut [u64], frames: &mut [u8], row: usize, page: Page, from
     ensures words_after { machine words.new ≡ copied_machine (machine words.old) row page.0 }
     ensures frames_after { frames.new ≡ copied_frames (machine words.old) frames.old from.0 }
 {
-    let FoundFrame::At(new) = take_frame(words) else {
+    let Some(new) = take_frame(words) else {
         return;
     };
     copy(frames, from, new);
@@ -68,11 +67,9 @@ fn copy_range(words: &mut [u64], frames: &mut [u8], src: u64, row: usize, region
     requires range_copy { RangeCopy (machine words.old) (length frames.old) src row region len }
     ensures { RangeCopied words.old frames.old src row region len words.new frames.new }
 {
-    let mut i = 0;
-    while i < len {
+    for i in 0..len {
         let from = PhysFrame(region.range.0 + i);
         copy_bare(words, frames, src, row, nth_page(region, i), from);
-        i += 1;
     }
 }
 
@@ -86,14 +83,12 @@ fn copy_next(words: &mut [u64], frames: &mut [u8], src: u64, row: usize, page: P
     ensures words_after { machine words.new ≡ copied_machine (machine words.old) row (next_at (machine words.old).entries src page.0).page.0 }
     ensures frames_after { frames.new ≡ copied_frames (machine words.old) frames.old (next_at (machine words.old).entries src page.0).frame.0 }
 {
-    let Found::At(i) = next_entry(&words[..], src, page) else {
+    let Some(i) = next_entry(&words[..], src, page) else {
         return page;
     };
     let e = entry_at(&words[..], i);
-    let at = e.page;
-    let from = e.frame;
-    copy_entry(words, frames, row, at, from);
-    Page(at.0 + 1)
+    copy_entry(words, frames, row, e.page, e.frame);
+    Page(e.page.0 + 1)
 }
 
 // Copies the pages of the entries of the region in row `src`, in page order.
@@ -106,10 +101,8 @@ fn copy_entries(words: &mut [u64], frames: &mut [u8], src: u64, row: usize)
 {
     let n = single_count(&words[..], src);
     let mut page = Page(0);
-    let mut i = 0;
-    while i < n {
+    for i in 0..n {
         page = copy_next(words, frames, src, row, page);
-        i += 1;
     }
 }
 
@@ -118,18 +111,10 @@ fn copied_row(region: Region) -> Region
     ensures { result ≡ copied_row region }
 {
     Region {
-        kind: region.kind,
-        start: VirtAddr(region.start.0),
-        size: region.size,
-        flags: PageTableFlags(region.flags.0),
-        fork: region.fork,
-        per_thread: region.per_thread,
         pins: 0,
-        file: region.file,
-        offset: region.offset,
-        length: region.length,
         ranged: 0,
         range: PhysFrame(0),
+        ..region
     }
 }
 

@@ -1,12 +1,10 @@
 -- Tables that are alike for a region: an entry of another put into one; searches find the same rows.
-use Rattle.std.specs.Prelude.{◌≡◌, ◌≢◌, Bool, ◌&&◌, cond, ℕ, zero, suc, ◌+◌, ◌<◌, length, get_or, set, drop, leb}
+use Rattle.std.specs.Prelude.{◌≡◌, ◌≢◌, Bool, ◌&&◌, cond, ℕ, zero, suc, ◌+◌, ◌<◌, length, get_or, set, drop, leb, Option, Some, None}
 use Rattle.std.proofs.Math.Path.{refl}
 use Rattle.std.proofs.Common.{ap, sym, ◌∙◌, arith, length-set, get_or-set_same, get_or-set_other, ne_eqb}
 use mathlib.Core.List.{List, [], ◌∷◌}
 use Rattle.std.proofs.Math.Decide.{ℕ_discrete}
 use Rattle.model.specs.declared.Entry.{Entry}
-use Rattle.model.specs.declared.Found.{Found}
-use Rattle.model.specs.declared.Found.TheVariants.{At, Nothing}
 use Rattle.model.specs.Machine.{no_entry}
 use Rattle.model.specs.Lookup.{first_row}
 use Rattle.lookup.specs.Lookups.{entry_of}
@@ -39,7 +37,7 @@ module _ (t u : List Entry) (src k : ℕ) (a : Alike t u src) where
   next_same (x ∷ l) [] i p q n = absurd (omega arith)
   next_same (x ∷ l) (y ∷ l') i p q n = go (ℕ_discrete x.owner (src + 1)) (next_same l l' (i + 1) (rest_is t i x l p) (rest_is u i y l' q) (omega arith))
     where
-      later : Found
+      later : Option ℕ
       later = next_from t (src + 1) k l (i + 1)
 
       here : get_or t i no_entry ≡ x
@@ -48,16 +46,16 @@ module _ (t u : List Entry) (src k : ℕ) (a : Alike t u src) where
       there : get_or u i no_entry ≡ y
       there = first_is u i y l' q
 
-      after : (f : Found) → later ≡ f → (n : ℕ) → not_after u n f ≡ not_after t n f
-      after Nothing e n = refl
-      after (At j) e n = ap (λ (z : Entry). leb n z.page.0) (a.same j (lowest_from t (src + 1) k l (i + 1) (rest_is t i x l p) j e).owned)
+      after : (f : Option ℕ) → later ≡ f → (n : ℕ) → not_after u n f ≡ not_after t n f
+      after None e n = refl
+      after (Some j) e n = ap (λ (z : Entry). leb n z.page.0) (a.same j (lowest_from t (src + 1) k l (i + 1) (rest_is t i x l p) j e).owned)
 
-      go : Dec (x.owner ≡ src + 1) → next_from u (src + 1) k l' (i + 1) ≡ later → cond (comes_first u (src + 1) k y (next_from u (src + 1) k l' (i + 1))) (At i) (next_from u (src + 1) k l' (i + 1)) ≡ cond (comes_first t (src + 1) k x later) (At i) later
+      go : Dec (x.owner ≡ src + 1) → next_from u (src + 1) k l' (i + 1) ≡ later → cond (comes_first u (src + 1) k y (next_from u (src + 1) k l' (i + 1))) (Some i) (next_from u (src + 1) k l' (i + 1)) ≡ cond (comes_first t (src + 1) k x later) (Some i) later
       go (yes o) ih =
           let same : y ≡ x = sym there ∙ a.same i (ap (λ (z : Entry). z.owner) here ∙ o) ∙ here in
-          ap (λ (f : Found). cond (comes_first u (src + 1) k y f) (At i) f) ih
-          ∙ ap (λ (z : Entry). cond (comes_first u (src + 1) k z later) (At i) later) same
-          ∙ ap (λ (b : Bool). cond (entry_from (src + 1) k x && b) (At i) later) (after later refl x.page.0)
+          ap (λ (f : Option ℕ). cond (comes_first u (src + 1) k y f) (Some i) f) ih
+          ∙ ap (λ (z : Entry). cond (comes_first u (src + 1) k z later) (Some i) later) same
+          ∙ ap (λ (b : Bool). cond (entry_from (src + 1) k x && b) (Some i) later) (after later refl x.page.0)
       go (no o) ih =
           let not_mine : y.owner ≢ src + 1 = λ z. a.other i (λ e. o (sym (ap (λ (v : Entry). v.owner) here) ∙ e)) (ap (λ (v : Entry). v.owner) there ∙ z) in
           rw (ne_eqb y.owner (src + 1) not_mine, ne_eqb x.owner (src + 1) o) ih
@@ -73,7 +71,7 @@ unfolding first_row
 first_same f [] [] i n e = refl
 first_same f [] (y ∷ u) i n e = absurd (omega arith)
 first_same f (x ∷ t) [] i n e = absurd (omega arith)
-first_same f (x ∷ t) (y ∷ u) i n e = λ k. cond (e zero k) (At i) (first_same f t u (i + 1) (omega arith) (λ j. e (suc j)) k)
+first_same f (x ∷ t) (y ∷ u) i n e = λ k. cond (e zero k) (Some i) (first_same f t u (i + 1) (omega arith) (λ j. e (suc j)) k)
 
 pub found_alike : (t u : List Entry) (src page : ℕ) → Alike t u src → first_row (entry_of (src + 1) page) u 0 ≡ first_row (entry_of (src + 1) page) t 0
 found_alike t u src page a = first_same (entry_of (src + 1) page) t u 0 a.long (λ j. go j (ℕ_discrete (get_or t j no_entry).owner (src + 1)))

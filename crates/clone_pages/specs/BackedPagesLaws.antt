@@ -1,24 +1,18 @@
--- The counts of backed pages, step by step; one entry more.
-use Rattle.std.specs.Prelude.{◌≡◌, refl, Bool, true, false, not, cond, List, [], ◌∷◌, set, eqb, ltb}
+-- The counts of backed pages, step by step.
+use Rattle.std.specs.Prelude.{◌≡◌, refl, Bool, true, false, not, cond, List, [], ◌∷◌, eqb, ltb}
 use Rattle.std.proofs.Math.Path.{ap}
 use Rattle.std.proofs.Common.{sym, ◌∙◌, eq-eqb, ne_eqb}
-use Rattle.std.proofs.lemmas.Bool.{false≢true}
 use Prim.Native.Nat.{ℕ, suc, ◌+◌, ◌-◌, ◌/◌, ◌≤◌, ◌<◌}
 use native.Mathlib.Omega.{arith}
 use Rattle.std.proofs.Math.ListN.{length}
 use Rattle.model.specs.declared.Entry.{Entry}
 use Rattle.model.specs.declared.Region.{Region}
 use Rattle.model.specs.declared.Backing.{Backing}
-use Rattle.model.specs.declared.Found.{Found}
-use Rattle.model.specs.declared.Found.TheVariants.{At, Nothing}
 use Rattle.laws.specs.Lists.{keep, up_from, count}
-use Rattle.model.specs.Layout.{machine}
-use Rattle.model.specs.Machine.{Machine, region_at, row_of, with_entries, no_entry}
-use Rattle.model.specs.Lookup.{is_found, is_ranged, row_found, free_entry}
-use Rattle.model.specs.Backing.{backing_at, entry_for, add_entry}
+use Rattle.model.specs.Machine.{Machine, region_at, row_of}
+use Rattle.model.specs.Lookup.{is_found, is_ranged}
+use Rattle.model.specs.Backing.{backing_at, entry_for}
 use Rattle.model.specs.Clone.{Held, in_order, single_pages, range_pages}
-use Rattle.model.specs.FoundRowLaws.{first_found}
-use Rattle.lookup.specs.LookupsLaws.{unowned, entries_length}
 use Rattle.clone_pages.specs.BackedPages.{range_len, bare_one, frames_from, bare_in}
 
 -- ---- entries
@@ -118,19 +112,6 @@ module _ (m : Machine) (row : ℕ) (r : Region) (len : ℕ) where
 
 pub range_total : (m : Machine) (p s : ℕ) (r : Region) → r ≡ region_at m p s → (len : ℕ) → len ≡ range_len m r → (n : ℕ) → n ≡ length (keep (bare_in m (row_of p s)) (frames_from r 0 len)) → n ≡ length (range_pages m p s)
 range_total m p s r read len long n e = e ∙ ap (λ (k : ℕ). length (keep (bare_in m (row_of p s)) (frames_from r 0 k))) long ∙ ap (λ (x : Region). length (keep (bare_in m (row_of p s)) (frames_from x 0 (range_len m x)))) read ∙ ap (λ l. length l) (sym (range_pages_are m p s))
-
--- ---- one entry more
-
-pub entry_low : (w : List ℕ) (i : ℕ) → At i ≡ free_entry (machine w) → i < 512
-unfolding free_entry
-entry_low w i e = let found = (first_found unowned (machine w).entries i no_entry (sym e)).0 in let sized = entries_length w in omega arith
-
-pub entry_added : (m : Machine) (row page f i : ℕ) → At i ≡ free_entry m → (e : Entry) → e ≡ record { owner = row + 1; page = record { 0 = page }; frame = record { 0 = f } } → (n : Machine) → n ≡ with_entries m (set m.entries i e) → n ≡ add_entry m row page f
-unfolding add_entry
-entry_added m row page f i found e row_is n put = put ∙ (λ t. with_entries m (set m.entries (row_found (found t)) (row_is t)))
-
-pub entry_none : (m : Machine) → is_found (free_entry m) ≡ true → Nothing ≡ free_entry m → ⊥
-entry_none m f e = false≢true (ap (λ (x : Found). is_found x) e ∙ f)
 
 -- a range of a region's row that was read is no longer than the region's
 pub len_fits : (m : Machine) (r x : Region) → x ≡ r → range_len m r ≤ 256 → (n : ℕ) → n ≡ range_len m x → n ≤ 256

@@ -1,21 +1,21 @@
-// A region's backed pages: how many there are, by entries and by its range, and an entry more.
+// A region's backed pages: how many there are, by entries and by its range.
 #![tactic(auto)]
 
-ghost use Rattle.std.specs.Prelude.{◌≡◌, true, cond, ◌+◌, ◌/◌, ◌<◌, ◌≤◌, length, eqb};
+ghost use Rattle.std.specs.Prelude.{◌≡◌, cond, ◌+◌, ◌/◌, ◌<◌, ◌≤◌, length, eqb};
 ghost use Rattle.model.specs.Layout.{word_count, machine};
 ghost use Rattle.model.specs.Machine.{region_at};
-ghost use Rattle.model.specs.Lookup.{is_found, free_entry};
-ghost use Rattle.model.specs.Backing.{entry_for, add_entry};
+ghost use Rattle.model.specs.Lookup.{is_found};
+ghost use Rattle.model.specs.Backing.{entry_for};
 ghost use Rattle.model.specs.Clone.{single_pages, range_pages};
 ghost use Rattle.laws.specs.Lists.{keep};
 ghost use Rattle.clone_pages.specs.BackedPages.{range_len, bare_one, bare_in, frames_from};
 
-use address::{Page, PhysFrame};
+use address::Page;
 use lookup::backed::backing_from;
-use lookup::search::{entry_for, free_entry};
-use model::{ENTRIES, Entry, Found, Region, SLOTS};
+use lookup::search::entry_for;
+use model::{ENTRIES, Entry, Region, SLOTS};
 use regions::slot::region_in;
-use rows::pages::{entry_at, put_entry};
+use rows::pages::entry_at;
 
 // What an entry counts where those of an owner are counted.
 fn one_if_owned(e: Entry, owner: u64) -> usize
@@ -36,11 +36,9 @@ pub fn single_count(words: &[u64], row: u64) -> usize
     ensures upper_bound { result ≤ 512 }
 {
     let mut n = 0;
-    let mut i = 0;
-    while i < ENTRIES {
+    for i in 0..ENTRIES {
         let e = entry_at(words, i);
         n += one_if_owned(e, row + 1);
-        i += 1;
     }
     n
 }
@@ -51,10 +49,7 @@ pub fn is_shadowed(words: &[u64], row: u64, page: Page) -> bool
     requires row_bound { row < 512 }
     ensures { result ≡ is_found (entry_for (machine words.now) row page.0) }
 {
-    let Found::At(_) = entry_for(words, row, page) else {
-        return false;
-    };
-    true
+    entry_for(words, row, page).is_some()
 }
 
 // What a page of a range counts where those with no entry are counted.
@@ -78,8 +73,7 @@ pub fn range_len(words: &[u64], region: Region) -> u64
     if region.ranged != 1 {
         return 0;
     }
-    let b = backing_from(words, region.range);
-    b.len
+    backing_from(words, region.range).len
 }
 
 // A page of a region's range.
@@ -100,10 +94,8 @@ fn bare_count(words: &[u64], row: u64, region: Region, len: u64) -> usize
     ensures upper_bound { result ≤ 256 }
 {
     let mut n = 0;
-    let mut i = 0;
-    while i < len {
+    for i in 0..len {
         n += one_if_bare(words, row, nth_page(region, i));
-        i += 1;
     }
     n
 }
@@ -120,22 +112,4 @@ pub fn range_count(words: &[u64], process: usize, slot: usize) -> usize
     let region = region_in(words, process, slot);
     let len = range_len(words, region);
     bare_count(words, (process * SLOTS + slot) as u64, region, len)
-}
-
-// Puts an entry of the region in a row into the lowest free one.
-pub fn add_entry(words: &mut [u64], row: usize, page: Page, frame: PhysFrame)
-    requires words_len { length words.old ≡ word_count }
-    requires row_bound { row < 512 }
-    requires words_value { is_found (free_entry (machine words.old)) ≡ true }
-    ensures { machine words.new ≡ add_entry (machine words.old) row page.0 frame.0 }
-{
-    let Found::At(i) = free_entry(&words[..]) else {
-        return;
-    };
-    let entry = Entry {
-        owner: row as u64 + 1,
-        page: page,
-        frame: frame,
-    };
-    put_entry(words, i, entry);
 }

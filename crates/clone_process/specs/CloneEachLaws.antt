@@ -1,5 +1,5 @@
 -- A process's regions cloned one after the other: what is left of it gives what the whole gives.
-use Rattle.std.specs.Prelude.{◌≡◌, Bool, true, false, List, ◌∷◌, ℕ, ◌+◌, ◌*◌, ◌≤◌, ◌<◌, get_or, drop}
+use Rattle.std.specs.Prelude.{◌≡◌, Bool, true, false, List, ◌∷◌, ℕ, ◌+◌, ◌*◌, ◌≤◌, ◌<◌, get_or, drop, Result, Ok, Err, ⊤}
 use Rattle.std.proofs.Math.Path.{refl, ap, sym}
 use Rattle.std.proofs.Common.{subst, ◌∙◌, add-one, drop_of_length-le, length-append, drop-cons}
 use Rattle.std.proofs.Math.Bool.{cond}
@@ -14,8 +14,6 @@ use Rattle.laws.specs.InListsLaws.{few_below}
 use Rattle.laws.specs.Lists.{keep}
 use Rattle.laws.specs.TellsLaws.{told}
 use Rattle.model.specs.declared.Region.{Region}
-use Rattle.model.specs.declared.Done.{Done}
-use Rattle.model.specs.declared.Done.TheVariants.{Yes, No}
 use Rattle.model.specs.Layout.{machine}
 use Rattle.model.specs.Machine.{State, process_at, region_at, order_of}
 use Rattle.model.specs.Lookup.{is_open}
@@ -39,12 +37,12 @@ use Rattle.clone_process.specs.CloneEach.{is_cloned, clone_slot}
 -- ---- one region
 
 module _ (w f : List ℕ) (p t q : ℕ) (r : Region) (read : r ≡ region_at (machine w) p t) where
-  pub slot_passed : (r.per_thread ≡ 0 → ⊥) → Does (λ s. clone_slot s p t q) w f w f Yes
+  pub slot_passed : (r.per_thread ≡ 0 → ⊥) → Does (λ s. clone_slot s p t q) w f w f (Ok tt)
   unfolding clone_slot
   slot_passed n files sound =
       ap (λ (b : Bool). cond b (core_clone_region (state_of w f files) p t q) (fine (state_of w f files))) (ap (λ (x : Region). is_cloned x) (sym read) ∙ ne_eqb r.per_thread 0 n)
 
-  pub slot_cloned : r.per_thread ≡ 0 → (w' f' : List ℕ) (d : Done) → Does (λ s. core_clone_region s p t q) w f w' f' d → Does (λ s. clone_slot s p t q) w f w' f' d
+  pub slot_cloned : r.per_thread ≡ 0 → (w' f' : List ℕ) (d : Result ⊤ Refusal) → Does (λ s. core_clone_region s p t q) w f w' f' d → Does (λ s. clone_slot s p t q) w f w' f' d
   unfolding clone_slot
   slot_cloned e w' f' d does files sound =
       ap (λ (b : Bool). cond b (core_clone_region (state_of w f files) p t q) (fine (state_of w f files))) (ap (λ (x : Region). is_cloned x) (sym read) ∙ eq-eqb r.per_thread 0 e)
@@ -93,7 +91,7 @@ module _ (w₀ f₀ : List ℕ) (k : SoundFrames w₀ f₀) (p q : ℕ) (p_low :
   unfolding core_clone
   cloning_first = record { words = refl; frames = refl; low = omega arith; rest = λ files s. refl; sound = λ files s. s; grows = grows_same refl refl refl }
 
-  pub cloning_all : (w f : List ℕ) (i : ℕ) → Cloning p q w₀ f₀ w f i → n ≤ i → Does (λ s. core_clone s p q) w₀ f₀ w f Yes
+  pub cloning_all : (w f : List ℕ) (i : ℕ) → Cloning p q w₀ f₀ w f i → n ≤ i → Does (λ s. core_clone s p q) w₀ f₀ w f (Ok tt)
   unfolding keep clone_each
   cloning_all w f i g h files s = sym (g.rest files s) ∙ ap (λ x. clone_each (keep c x) (state_of w f files) p q) (drop_of_length-le l past)
     where
@@ -141,7 +139,7 @@ module _ (w₀ f₀ : List ℕ) (k : SoundFrames w₀ f₀) (p q : ℕ) (p_low :
       list_is : drop i l ≡ t ∷ drop (i + 1) l
       list_is = drop-cons l i 0 inside ∙ (λ j. sym slot_is j ∷ drop (sym (add-one i) j) l)
 
-      module _ (w' f' : List ℕ) (d : Done) (does : Does (λ s. clone_slot s p t q) w f w' f' d) where
+      module _ (w' f' : List ℕ) (d : Result ⊤ Refusal) (does : Does (λ s. clone_slot s p t q) w f w' f' d) where
         went : (files : List ℕ) → soundb (state_of w₀ f₀ files) ≡ true → and_then (leaving d (state_of w' f' files)) (λ u. clone_each (keep c (drop (i + 1) l)) u p q) ≡ core_clone (state_of w₀ f₀ files) p q
         went files s =
             sym (ap (λ (y : Try). and_then y (λ u. clone_each (keep c (drop (i + 1) l)) u p q)) (does files (g.sound files s)))
@@ -149,20 +147,20 @@ module _ (w₀ f₀ : List ℕ) (k : SoundFrames w₀ f₀) (p q : ℕ) (p_low :
             ∙ sym (ap (λ x. clone_each (keep c x) (state_of w f files) p q) list_is)
             ∙ g.rest files s
 
-        pub cloning_stops : (r : Refusal) → d ≡ No r → Does (λ s. core_clone s p q) w₀ f₀ w' f' (No r)
-        cloning_stops r e files s = sym (went files s) ∙ ap (λ (x : Done). and_then (leaving x (state_of w' f' files)) (λ u. clone_each (keep c (drop (i + 1) l)) u p q)) e
+        pub cloning_stops : (r : Refusal) → d ≡ Err r → Does (λ s. core_clone s p q) w₀ f₀ w' f' (Err r)
+        cloning_stops r e files s = sym (went files s) ∙ ap (λ (x : Result ⊤ Refusal). and_then (leaving x (state_of w' f' files)) (λ u. clone_each (keep c (drop (i + 1) l)) u p q)) e
 
         left : (files : List ℕ) → soundb (state_of w₀ f₀ files) ≡ true → Sound (state_of w' f' files) × Grows (machine w) (machine w')
         left files s =
             subst (λ (y : Try). Sound y.state × Grows (machine w) y.state.machine) (does files (g.sound files s))
             (slot_kept (state_of w f files) ((sound_tells _).yes (g.sound files s)) p t q is_listed opened)
 
-        pub cloning_more : d ≡ Yes → length w' ≡ length w → length f' ≡ length f → Cloning p q w₀ f₀ w' f' (i + 1)
+        pub cloning_more : d ≡ Ok tt → length w' ≡ length w → length f' ≡ length f → Cloning p q w₀ f₀ w' f' (i + 1)
         cloning_more e a b = record {
           words = a ∙ g.words;
           frames = b ∙ g.frames;
           low = let here = inside in omega arith;
-          rest = λ files s. ap (λ (x : Done). and_then (leaving x (state_of w' f' files)) (λ u. clone_each (keep c (drop (i + 1) l)) u p q)) (sym e) ∙ went files s;
+          rest = λ files s. ap (λ (x : Result ⊤ Refusal). and_then (leaving x (state_of w' f' files)) (λ u. clone_each (keep c (drop (i + 1) l)) u p q)) (sym e) ∙ went files s;
           sound = λ files s. told (sound_tells (state_of w' f' files)) (left files s).0;
           grows = grows_then g.grows (left k.files k.sound).1;
         }
@@ -170,16 +168,16 @@ module _ (w₀ f₀ : List ℕ) (k : SoundFrames w₀ f₀) (p q : ℕ) (p_low :
 -- ---- the call
 
 module _ (w f : List ℕ) (p q : ℕ) where
-  pub source_closed : is_open (machine w) p ≡ false → Does (λ s. clone s p q) w f w f (No NoProcess)
+  pub source_closed : is_open (machine w) p ≡ false → Does (λ s. clone s p q) w f w f (Err NoProcess)
   unfolding clone clone_process_refusals
-  source_closed o files s = refused (state_of w f files) (λ (r : Refusal). No r) _ _ s NoProcess (first_here _ NoProcess _ (not_no _ o))
+  source_closed o files s = refused (state_of w f files) (λ (r : Refusal). Err r) _ _ s NoProcess (first_here _ NoProcess _ (not_no _ o))
 
   module _ (o : is_open (machine w) p ≡ true) where
-    pub target_closed : is_open (machine w) q ≡ false → Does (λ s. clone s p q) w f w f (No NoProcess)
+    pub target_closed : is_open (machine w) q ≡ false → Does (λ s. clone s p q) w f w f (Err NoProcess)
     unfolding clone clone_process_refusals
-    target_closed t files s = refused (state_of w f files) (λ (r : Refusal). No r) _ _ s NoProcess (first_later _ NoProcess _ _ (not_yes _ o) (first_here _ NoProcess _ (not_no _ t)))
+    target_closed t files s = refused (state_of w f files) (λ (r : Refusal). Err r) _ _ s NoProcess (first_later _ NoProcess _ _ (not_yes _ o) (first_here _ NoProcess _ (not_no _ t)))
 
-    pub clone_done : is_open (machine w) q ≡ true → (w' f' : List ℕ) (d : Done) → Does (λ s. core_clone s p q) w f w' f' d → Does (λ s. clone s p q) w f w' f' d
+    pub clone_done : is_open (machine w) q ≡ true → (w' f' : List ℕ) (d : Result ⊤ Refusal) → Does (λ s. core_clone s p q) w f w' f' d → Does (λ s. clone s p q) w f w' f' d
     unfolding clone clone_process_refusals
     clone_done t w' f' d does files s =
-        granted (state_of w f files) (λ (r : Refusal). No r) _ _ s (first_later _ NoProcess _ _ (not_yes _ o) (first_later _ NoProcess _ _ (not_yes _ t) first_none)) ∙ does files s
+        granted (state_of w f files) (λ (r : Refusal). Err r) _ _ s (first_later _ NoProcess _ _ (not_yes _ o) (first_later _ NoProcess _ _ (not_yes _ t) first_none)) ∙ does files s

@@ -15,7 +15,7 @@ use answers::Refusal;
 use clone_region::clone_into;
 use lookup::attached::attached_count;
 use lookup::search::is_open;
-use model::{Done, SLOTS};
+use model::SLOTS;
 use regions::slot::region_in;
 use rows::slots::order_at;
 
@@ -26,7 +26,7 @@ fn clone_slot(
     process: usize,
     slot: usize,
     target: usize,
-) -> Done
+) -> Result<(), Refusal>
     requires words_len { length words.old ≡ word_count }
     requires sound_frames { SoundFrames words.old frames.old }
     requires process_bound { process < 8 }
@@ -37,14 +37,19 @@ fn clone_slot(
 {
     let region = region_in(&words[..], process, slot);
     if region.per_thread != 0 {
-        return Done::Yes;
+        return Ok(());
     }
     clone_into(words, frames, process, slot, target)
 }
 
 // Clones a process's regions into another, in list order: the Rust's MemoryRegions::clone_into. A clone leaves the source's list as it
 // was but for its end, so it is read where it stands.
-fn clone_regions(words: &mut [u64], frames: &mut [u8], process: usize, target: usize) -> Done
+fn clone_regions(
+    words: &mut [u64],
+    frames: &mut [u8],
+    process: usize,
+    target: usize,
+) -> Result<(), Refusal>
     requires words_len { length words.old ≡ word_count }
     requires sound_frames { SoundFrames words.old frames.old }
     requires process_bound { process < 8 }
@@ -53,32 +58,29 @@ fn clone_regions(words: &mut [u64], frames: &mut [u8], process: usize, target: u
     ensures { Does (λ s. core_clone s process target) words.old frames.old words.new frames.new result }
 {
     let count = attached_count(&words[..], process);
-    let mut i = 0;
-    while i < count {
+    for i in 0..count {
         let slot = order_at(&words[..], process * SLOTS + i) as usize;
-        match clone_slot(words, frames, process, slot, target) {
-            Done::No(refusal) => {
-                return Done::No(refusal);
-            }
-            Done::Yes => {
-                i += 1;
-            }
-        }
+        clone_slot(words, frames, process, slot, target)?;
     }
-    Done::Yes
+    Ok(())
 }
 
 // Clones a process's regions into another: the core of the call.
-pub fn clone_core(words: &mut [u64], frames: &mut [u8], process: u64, target: u64) -> Done
+pub fn clone_core(
+    words: &mut [u64],
+    frames: &mut [u8],
+    process: u64,
+    target: u64,
+) -> Result<(), Refusal>
     requires words_len { length words.old ≡ word_count }
     requires sound_frames { SoundFrames words.old frames.old }
     ensures { Does (λ s. clone s process target) words.old frames.old words.new frames.new result }
 {
     if !is_open(&words[..], process) {
-        return Done::No(Refusal::NoProcess);
+        return Err(Refusal::NoProcess);
     }
     if !is_open(&words[..], target) {
-        return Done::No(Refusal::NoProcess);
+        return Err(Refusal::NoProcess);
     }
     clone_regions(words, frames, process as usize, target as usize)
 }

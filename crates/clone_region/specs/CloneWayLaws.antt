@@ -1,5 +1,5 @@
 -- Each way through the refusals of cloning a region, and from the way to the clone.
-use Rattle.std.specs.Prelude.{◌≡◌, refl, ◌≢◌, Bool, true, ◌&&◌, ◌||◌, not, List, ◌++◌, ℕ, ◌+◌, ◌*◌, ◌^◌, ◌≤◌, ◌<◌}
+use Rattle.std.specs.Prelude.{◌≡◌, refl, ◌≢◌, Bool, true, ◌&&◌, ◌||◌, not, List, ◌++◌, ℕ, ◌+◌, ◌*◌, ◌^◌, ◌≤◌, ◌<◌, Option, Some, None, Result, Ok, Err, ⊤}
 use Rattle.std.proofs.Math.Path.{ap, sym}
 use Rattle.std.proofs.Common.{subst, ◌∙◌}
 use Rattle.std.proofs.Math.Bool.{false, cond}
@@ -12,10 +12,6 @@ use Rattle.answers.specs.declared.Refusal.{Refusal}
 use Rattle.answers.specs.declared.Refusal.TheVariants.{SegmentReserved, OutOfMemory, TableFull}
 use Rattle.model.specs.declared.Region.{Region}
 use Rattle.model.specs.declared.Pool.{Pool}
-use Rattle.model.specs.declared.Done.{Done}
-use Rattle.model.specs.declared.Done.TheVariants.{Yes, No}
-use Rattle.model.specs.declared.Found.{Found}
-use Rattle.model.specs.declared.Found.TheVariants.{At, Nothing}
 use Rattle.model.specs.Layout.{machine}
 use Rattle.model.specs.Machine.{Machine, State, region_at, row_of}
 use Rattle.model.specs.Lookup.{is_ranged, pages_for, segment_len, free_slot, free_entries, is_found, row_found}
@@ -30,21 +26,24 @@ use Rattle.model.specs.RecordLaws.{sound_tells}
 use Rattle.rows.specs.LentMemory.{state_of, SoundWords, SoundFrames, Does}
 use Rattle.lookup.specs.NamedSlotLaws.{words_len}
 use Rattle.lookup.specs.FirstOfLaws.{first_here, first_later, first_none, first_passed}
+use Rattle.lookup.specs.Named.{named_by}
+use Rattle.lookup.specs.NamedLaws.{named_slot, named_no}
+use Rattle.laws.specs.ResultLaws.{ok_not_err, err_not_ok, ok_same, err_same}
+use Rattle.std.specs.Option.{ok_or}
 use Rattle.clone_pages.specs.BackedPages.{range_len}
 use Rattle.keeping.specs.OwingOfSound.{sound_owing}
 use Rattle.clone_share.specs.ShareInto.{Cloneable, shared_into}
 use Rattle.clone_copy.specs.CopyInto.{Copyable, CopiedInto}
-use Rattle.clone_region.specs.declared.Way.{Way}
-use Rattle.clone_region.specs.declared.Way.TheVariants.{Go}
-use Rattle.clone_region.specs.CloneWay.{way_by, clone_way}
+use Rattle.clone_region.specs.CloneWay.{clone_way}
 
-way_go : (d : Done) (i j : ℕ) (n : Way) → n ≡ way_by d i → n ≡ Go j → (Yes ≡ d) × (j ≡ i)
-way_go Yes i j n e f = (refl, let g : Go j ≡ Go i = sym f ∙ e in cc)
-way_go (No r) i j n e f = let z : ◌≡◌ {A = ℕ} 0 1 = let g : Go j ≡ Way.No r = sym f ∙ e in cc in absurd (omega arith)
+-- what `ok_or` answers: the refusal that was given, or what is there
+pub not_there : (o : Option ℕ) (e k : Refusal) → ok_or o e ≡ Err k → (None ≡ o) × (k ≡ e)
+not_there None e k p = (refl, sym (err_same p))
+not_there (Some x) e k p = absurd (ok_not_err p)
 
-way_no : (d : Done) (i : ℕ) (r : Refusal) (n : Way) → n ≡ way_by d i → n ≡ Way.No r → No r ≡ d
-way_no Yes i r n e f = let z : ◌≡◌ {A = ℕ} 0 1 = let g : Way.No r ≡ Go i = sym f ∙ e in cc in absurd (omega arith)
-way_no (No q) i r n e f = let g : Way.No r ≡ Way.No q = sym f ∙ e in let h : r ≡ q = cc in ap (λ x. No x) h
+pub is_there : (o : Option ℕ) (e : Refusal) (x : ℕ) → ok_or o e ≡ Ok x → Some x ≡ o
+is_there None e x p = absurd (err_not_ok p)
+is_there (Some y) e x p = ap (λ n. Some n) (sym (ok_same p))
 
 -- ---- entries and frames
 
@@ -94,60 +93,60 @@ module _ (w : List ℕ) (k : SoundWords w) (p s q : ℕ) (r : Region) (read : r 
   is : b ≡ reserved m q (region_at m p s).start.0 (segment_len (region_at m p s))
   is = told ∙ ap (λ (n : ℕ). reserved m q r.start.0 n) (long size_fits) ∙ ap (λ (x : Region). reserved m q x.start.0 (segment_len x)) read
 
-  no_way : (x : Refusal) → No x ≡ first_of (clone_refusals m p s q) → Way.No x ≡ clone_way m p s q
-  no_way x e = ap (λ (d : Done). way_by d (row_found (free_slot m q))) e
+  no_way : (x : Refusal) → Err x ≡ first_of (clone_refusals m p s q) → Err x ≡ clone_way m p s q
+  no_way x e = ap (λ (d : Result ⊤ Refusal). named_by d (row_found (free_slot m q))) e
 
-  pub way_reserved : b ≡ true → Way.No SegmentReserved ≡ clone_way m p s q
+  pub way_reserved : b ≡ true → Err SegmentReserved ≡ clone_way m p s q
   unfolding clone_refusals
   way_reserved e = no_way SegmentReserved (first_here _ SegmentReserved _ (sym is ∙ e))
 
   module _ (clear : b ≡ false) where
-    full : (not (is_found (free_slot m q)) || ltb (free_entries m) (entries_needed m p s)) ≡ true → Way.No TableFull ≡ clone_way m p s q
+    full : (not (is_found (free_slot m q)) || ltb (free_entries m) (entries_needed m p s)) ≡ true → Err TableFull ≡ clone_way m p s q
     unfolding clone_refusals
     full e = no_way TableFull (first_later _ SegmentReserved _ _ (sym is ∙ clear) (first_here _ TableFull _ e))
 
-    pub way_slots : Nothing ≡ free_slot m q → Way.No TableFull ≡ clone_way m p s q
+    pub way_slots : None ≡ free_slot m q → Err TableFull ≡ clone_way m p s q
     way_slots e = full (rw (sym e) refl)
 
-    module _ (i : ℕ) (found : At i ≡ free_slot m q) (n : ℕ) (needs : n ≡ entries_needed m p s) (e : ℕ) (entries : e ≡ free_entries m) where
+    module _ (i : ℕ) (found : Some i ≡ free_slot m q) (n : ℕ) (needs : n ≡ entries_needed m p s) (e : ℕ) (entries : e ≡ free_entries m) where
       table : (c : Bool) → ltb e n ≡ c → (not (is_found (free_slot m q)) || ltb (free_entries m) (entries_needed m p s)) ≡ c
-      table c h = ap (λ (x : Found). not (is_found x) || ltb (free_entries m) (entries_needed m p s)) (sym found) ∙ (λ t. ltb (sym entries t) (sym needs t)) ∙ h
+      table c h = ap (λ (x : Option ℕ). not (is_found x) || ltb (free_entries m) (entries_needed m p s)) (sym found) ∙ (λ t. ltb (sym entries t) (sym needs t)) ∙ h
 
-      pub way_entries : e < n → Way.No TableFull ≡ clone_way m p s q
+      pub way_entries : e < n → Err TableFull ≡ clone_way m p s q
       way_entries h = full (table true (lt-ltb e n h))
 
       module _ (left : n ≤ e) (c : Bool) (lacks : c ≡ (is_copied r && ltb m.pool.free n)) where
         room : c ≡ (is_copied (region_at m p s) && ltb m.pool.free (entries_needed m p s))
         room = lacks ∙ (λ t. is_copied (read t) && ltb m.pool.free (needs t))
 
-        pub way_frames : c ≡ true → Way.No OutOfMemory ≡ clone_way m p s q
+        pub way_frames : c ≡ true → Err OutOfMemory ≡ clone_way m p s q
         unfolding clone_refusals
         way_frames h = no_way OutOfMemory (first_later _ SegmentReserved _ _ (sym is ∙ clear) (first_later _ TableFull _ _ (table false (le-ltb e n left)) (first_here _ OutOfMemory _ (sym room ∙ h))))
 
-        pub way_free : c ≡ false → Go i ≡ clone_way m p s q
+        pub way_free : c ≡ false → Ok i ≡ clone_way m p s q
         unfolding clone_refusals
-        way_free h = λ t. way_by (pass t) (row_found (found t))
+        way_free h = λ t. named_by (pass t) (row_found (found t))
           where
-            pass : Yes ≡ first_of (clone_refusals m p s q)
+            pass : Ok tt ≡ first_of (clone_refusals m p s q)
             pass = first_later _ SegmentReserved _ _ (sym is ∙ clear) (first_later _ TableFull _ _ (table false (le-ltb e n left)) (first_later _ OutOfMemory _ _ (sym room ∙ h) first_none))
 
 -- ---- the clone
 
-module _ (w f : List ℕ) (k : SoundFrames w f) (p s q : ℕ) (used : (region_at (machine w) p s).kind ≢ 0) (r : Region) (read : r ≡ region_at (machine w) p s) (x : Way) (told : x ≡ clone_way (machine w) p s q) where
-  pub clone_refused : (y : Refusal) → x ≡ Way.No y → Does (λ t. core_clone_region t p s q) w f w f (No y)
+module _ (w f : List ℕ) (k : SoundFrames w f) (p s q : ℕ) (used : (region_at (machine w) p s).kind ≢ 0) (r : Region) (read : r ≡ region_at (machine w) p s) (x : Result ℕ Refusal) (told : x ≡ clone_way (machine w) p s q) where
+  pub clone_refused : (y : Refusal) → x ≡ Err y → Does (λ t. core_clone_region t p s q) w f w f (Err y)
   unfolding core_clone_region
-  clone_refused y e files sound = ap (λ (d : Done). unless d (state_of w f files) (fine (cond (is_copied (region_at (machine w) p s)) (copy_into (state_of w f files) p s q) (share_into (state_of w f files) p s q)))) (sym (way_no (first_of (clone_refusals (machine w) p s q)) (row_found (free_slot (machine w) q)) y x told e))
+  clone_refused y e files sound = ap (λ (d : Result ⊤ Refusal). unless d (state_of w f files) (fine (cond (is_copied (region_at (machine w) p s)) (copy_into (state_of w f files) p s q) (share_into (state_of w f files) p s q)))) (sym (named_no (first_of (clone_refusals (machine w) p s q)) (row_found (free_slot (machine w) q)) y x told e))
 
-  module _ (i : ℕ) (e : x ≡ Go i) where
-    passes : Yes ≡ first_of (clone_refusals (machine w) p s q)
-    passes = (way_go (first_of (clone_refusals (machine w) p s q)) (row_found (free_slot (machine w) q)) i x told e).0
+  module _ (i : ℕ) (e : x ≡ Ok i) where
+    passes : Ok tt ≡ first_of (clone_refusals (machine w) p s q)
+    passes = (named_slot (first_of (clone_refusals (machine w) p s q)) (row_found (free_slot (machine w) q)) i x told e).0
 
-    slot_found : free_slot (machine w) q ≡ At i
+    slot_found : free_slot (machine w) q ≡ Some i
     unfolding clone_refusals
     slot_found =
         let one = first_passed _ SegmentReserved _ passes in
         let two = first_passed _ TableFull _ one.1 in
-        found_row (free_slot (machine w) q) (or_none (not (is_found (free_slot (machine w) q))) (ltb (free_entries (machine w)) (entries_needed (machine w) p s)) two.0).0 ∙ ap (λ (j : ℕ). At j) (sym (way_go (first_of (clone_refusals (machine w) p s q)) (row_found (free_slot (machine w) q)) i x told e).1)
+        found_row (free_slot (machine w) q) (or_none (not (is_found (free_slot (machine w) q))) (ltb (free_entries (machine w)) (entries_needed (machine w) p s)) two.0).0 ∙ ap (λ (j : ℕ). Some j) (sym (named_slot (first_of (clone_refusals (machine w) p s q)) (row_found (free_slot (machine w) q)) i x told e).1)
 
     entries_left : entries_needed (machine w) p s ≤ free_entries (machine w)
     unfolding clone_refusals
@@ -155,7 +154,7 @@ module _ (w f : List ℕ) (k : SoundFrames w f) (p s q : ℕ) (used : (region_at
 
     went : (files : List ℕ) → core_clone_region (state_of w f files) p s q ≡ fine (cond (is_copied (region_at (machine w) p s)) (copy_into (state_of w f files) p s q) (share_into (state_of w f files) p s q))
     unfolding core_clone_region
-    went files = ap (λ (d : Done). unless d (state_of w f files) (fine (cond (is_copied (region_at (machine w) p s)) (copy_into (state_of w f files) p s q) (share_into (state_of w f files) p s q)))) (sym passes)
+    went files = ap (λ (d : Result ⊤ Refusal). unless d (state_of w f files) (fine (cond (is_copied (region_at (machine w) p s)) (copy_into (state_of w f files) p s q) (share_into (state_of w f files) p s q)))) (sym passes)
 
     -- it copies
     module _ (fork : r.fork ≡ 1) where
@@ -177,7 +176,7 @@ module _ (w f : List ℕ) (k : SoundFrames w f) (p s q : ℕ) (used : (region_at
       pub may_copy : Copyable w f p s q i
       may_copy = let n = needed in let a = entries_left in let b = frames_left in record { sound = k; used = used; slot = slot_found; left = omega arith; free = omega arith }
 
-      pub clone_copied : (w' f' : List ℕ) → CopiedInto w f p s q w' f' → Does (λ t. core_clone_region t p s q) w f w' f' Yes
+      pub clone_copied : (w' f' : List ℕ) → CopiedInto w f p s q w' f' → Does (λ t. core_clone_region t p s q) w f w' f' (Ok tt)
       clone_copied w' f' all files sound = went files ∙ ap (λ (b : Bool). fine (cond b (copy_into (state_of w f files) p s q) (share_into (state_of w f files) p s q))) copies ∙ ap (λ (y : State). fine y) (sym (all files))
 
     -- it shares
@@ -192,6 +191,6 @@ module _ (w f : List ℕ) (k : SoundFrames w f) (p s q : ℕ) (used : (region_at
       pub may_share : Cloneable w p s q i
       may_share = let n = needed_singles in let a = entries_left in record { sound = record { frames = f; files = k.files; sound = k.sound }; used = used; slot = slot_found; left = omega arith }
 
-      pub clone_shared : (w' : List ℕ) → machine w' ≡ shared_into (machine w) p s q → Does (λ t. core_clone_region t p s q) w f w' f Yes
+      pub clone_shared : (w' : List ℕ) → machine w' ≡ shared_into (machine w) p s q → Does (λ t. core_clone_region t p s q) w f w' f (Ok tt)
       unfolding share_into
       clone_shared w' all files sound = went files ∙ ap (λ (b : Bool). fine (cond b (copy_into (state_of w f files) p s q) (share_into (state_of w f files) p s q))) shares ∙ ap (λ (y : Machine). fine (record { machine = y; frames = f; bytes = files })) (sym all)

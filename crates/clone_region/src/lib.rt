@@ -17,20 +17,12 @@ use clone_copy::copy_into;
 use clone_pages::{range_count, single_count};
 use clone_share::share_into;
 use lookup::attached::region_for;
-use lookup::named::Named;
 use lookup::search::{free_entries, free_slot, is_open};
-use model::{COPY_EAGER, Done, Found, Region, SLOTS};
+use model::{COPY_EAGER, Region, SLOTS};
 use regions::slot::region_in;
 use reserve::taken::reserved;
 use rows::backings::pool;
 use rows::sizes::segment_len;
-
-// The free slot that a clone goes into, or why there is no clone.
-#[derive(Clone, Copy)]
-pub enum Way {
-    Go(usize),
-    No(Refusal),
-}
 
 // How many entries a clone of the region in a slot needs.
 fn entries_needed(words: &[u64], process: usize, slot: usize) -> usize
@@ -56,12 +48,11 @@ fn lacks_frames(words: &[u64], region: Region, needed: usize) -> bool
     if region.fork != COPY_EAGER {
         return false;
     }
-    let row = pool(words);
-    row.free < needed as u64
+    pool(words).free < needed as u64
 }
 
-// The refusals of cloning a region: what is reserved, then slots and entries, then frames.
-fn clone_way(words: &[u64], process: usize, slot: usize, target: usize) -> Way
+// The free slot that a region's clone goes into, or why it is not cloned: what is reserved, then slots and entries, then frames.
+fn clone_way(words: &[u64], process: usize, slot: usize, target: usize) -> Result<usize, Refusal>
     requires words_len { length words.now ≡ word_count }
     requires sound_words { SoundWords words.now }
     requires process_bound { process < 8 }
@@ -71,19 +62,17 @@ fn clone_way(words: &[u64], process: usize, slot: usize, target: usize) -> Way
 {
     let region = region_in(words, process, slot);
     if reserved(words, target, region.start.0, segment_len(region.size)) {
-        return Way::No(Refusal::SegmentReserved);
+        return Err(Refusal::SegmentReserved);
     }
-    let Found::At(free) = free_slot(words, target) else {
-        return Way::No(Refusal::TableFull);
-    };
+    let free = free_slot(words, target).ok_or(Refusal::TableFull)?;
     let needed = entries_needed(words, process, slot);
     if free_entries(words) < needed {
-        return Way::No(Refusal::TableFull);
+        return Err(Refusal::TableFull);
     }
     if lacks_frames(words, region, needed) {
-        return Way::No(Refusal::OutOfMemory);
+        return Err(Refusal::OutOfMemory);
     }
-    Way::Go(free)
+    Ok(free)
 }
 
 // Clones the region in a slot into a process: the Rust's MemoryRegion::clone_into.
@@ -93,7 +82,7 @@ pub fn clone_into(
     process: usize,
     slot: usize,
     target: usize,
-) -> Done
+) -> Result<(), Refusal>
     requires words_len { length words.old ≡ word_count }
     requires sound_frames { SoundFrames words.old frames.old }
     requires process_bound { process < 8 }
@@ -103,39 +92,30 @@ pub fn clone_into(
     ensures { Does (λ s. core_clone_region s process slot target) words.old frames.old words.new frames.new result }
 {
     let region = region_in(&words[..], process, slot);
-    match clone_way(&words[..], process, slot, target) {
-        Way::No(refusal) => {
-            return Done::No(refusal);
-        }
-        Way::Go(free) => {
-            if region.fork == COPY_EAGER {
-                copy_into(words, frames, process, slot, target, free);
-                return Done::Yes;
-            }
-            share_into(words, process, slot, target, free);
-            return Done::Yes;
-        }
+    let free = clone_way(&words[..], process, slot, target)?;
+    if region.fork == COPY_EAGER {
+        copy_into(words, frames, process, slot, target, free);
+        return Ok(());
     }
+    share_into(words, process, slot, target, free);
+    Ok(())
 }
 
-// The region that is to be cloned, or why not: the refusals in the order of their numbers.
-fn cloned_region(words: &[u64], process: u64, addr: VirtAddr, target: u64) -> Named
+// The slot of the region that is to be cloned, or why not: the refusals in the order of their numbers.
+fn cloned_region(words: &[u64], process: u64, addr: VirtAddr, target: u64) -> Result<usize, Refusal>
     requires { length words.now ≡ word_count }
     ensures { result ≡ clone_by words.now process addr.0 target }
 {
     if !is_open(words, process) {
-        return Named::No(Refusal::NoProcess);
+        return Err(Refusal::NoProcess);
     }
     if !is_open(words, target) {
-        return Named::No(Refusal::NoProcess);
+        return Err(Refusal::NoProcess);
     }
     if !addr.is_user() {
-        return Named::No(Refusal::BadAddress);
+        return Err(Refusal::BadAddress);
     }
-    let Found::At(slot) = region_for(words, process as usize, addr) else {
-        return Named::No(Refusal::NoRegion);
-    };
-    Named::Slot(slot)
+    region_for(words, process as usize, addr).ok_or(Refusal::NoRegion)
 }
 
 // Clones the region at an address into a process: the core of the call.
@@ -145,17 +125,11 @@ pub fn clone_region_core(
     process: u64,
     addr: VirtAddr,
     target: u64,
-) -> Done
+) -> Result<(), Refusal>
     requires words_len { length words.old ≡ word_count }
     requires sound_frames { SoundFrames words.old frames.old }
     ensures { Does (λ s. clone_region s process addr.0 target) words.old frames.old words.new frames.new result }
 {
-    match cloned_region(&words[..], process, addr, target) {
-        Named::No(refusal) => {
-            return Done::No(refusal);
-        }
-        Named::Slot(slot) => {
-            return clone_into(words, frames, process as usize, slot, target as usize);
-        }
-    }
+    let slot = cloned_region(&words[..], process, addr, target)?;
+    clone_into(words, frames, process as usize, slot, target as usize)
 }

@@ -1,7 +1,6 @@
 -- A region's clone that shares: from what the parts leave to the model's share_into (RULES K1, K2).
-use Rattle.std.specs.Prelude.{◌≡◌, ◌≢◌, cond, List, ℕ, ◌≤◌, length}
+use Rattle.std.specs.Prelude.{◌≡◌, ◌≢◌, cond, List, ℕ, ◌≤◌, length, Some}
 use Rattle.model.specs.declared.Region.{Region}
-use Rattle.model.specs.declared.Found.TheVariants.{At}
 use Rattle.laws.specs.Lists.{each}
 use Rattle.model.specs.Layout.{machine}
 use Rattle.model.specs.Machine.{Machine, region_at, row_of}
@@ -26,5 +25,5 @@ shared_into m p s q =
 pub record Cloneable (w : List ℕ) (p s q f : ℕ) : Type 0 where
   pub sound : SoundWords w
   pub used : (region_at (machine w) p s).kind ≢ 0
-  pub slot : free_slot (machine w) q ≡ At f
+  pub slot : free_slot (machine w) q ≡ Some f
   pub left : length (single_pages (machine w).entries (row_of p s)) ≤ free_entries (machine w)

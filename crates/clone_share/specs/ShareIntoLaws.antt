@@ -1,5 +1,5 @@
 -- From what the parts of a clone that shares leave to the model's share_into.
-use Rattle.std.specs.Prelude.{◌≡◌, ◌≢◌, Bool, List, ℕ, ◌+◌, ◌*◌, ◌^◌, ◌≤◌, ◌<◌, get_or, set}
+use Rattle.std.specs.Prelude.{◌≡◌, ◌≢◌, Bool, List, ℕ, ◌+◌, ◌*◌, ◌^◌, ◌≤◌, ◌<◌, get_or, set, Option, Some}
 use Rattle.std.proofs.Math.Path.{refl, ap, subst}
 use Rattle.std.proofs.Common.{sym, ◌∙◌, get_or-set_same, get_or-set_other, eq-eqb, ne_eqb, eqb-true}
 use Rattle.std.proofs.Math.Bool.{true, false, cond}
@@ -9,8 +9,6 @@ use Rattle.std.proofs.Math.ListN.{length}
 use Rattle.std.proofs.Math.Dec.{eqb}
 use Rattle.model.specs.declared.Region.{Region}
 use Rattle.model.specs.declared.Backing.{Backing}
-use Rattle.model.specs.declared.Found.{Found}
-use Rattle.model.specs.declared.Found.TheVariants.{At}
 use Rattle.laws.specs.Lists.{each, count}
 use Rattle.laws.specs.CountLaws.{count_most}
 use Rattle.model.specs.Layout.{machine}
@@ -182,7 +180,7 @@ module _ (w : List ℕ) (p s q f : ℕ) (p_low : p < 8) (s_low : s < 64) (q_low 
   ranged_between true e = held_between r.range.0 (m1_range e).0
   ranged_between false e = m1_between
 
-  ranged_slot : (b : Bool) → free_slot (ranged b) q ≡ At f
+  ranged_slot : (b : Bool) → free_slot (ranged b) q ≡ Some f
   unfolding hold with_backings free_slot
   ranged_slot true = m1_slot ∙ k.slot
   ranged_slot false = m1_slot ∙ k.slot
@@ -268,4 +266,4 @@ module _ (w : List ℕ) (p s q f : ℕ) (p_low : p < 8) (s_low : s < 64) (q_low 
       share_is n all =
           all
           ∙ (λ t. each (share_entry (row_of q f)) (single_pages (c_entries t) (row_of p s)) ((c_is ∙ model_is) t))
-          ∙ ap (λ (z : Found). each (share_entry (row_of q (row_found z))) (single_pages m.entries (row_of p s)) (add_region (share_range r (demote m p s)) q (shared_row r))) (sym k.slot)
+          ∙ ap (λ (z : Option ℕ). each (share_entry (row_of q (row_found z))) (single_pages m.entries (row_of p s)) (add_region (share_range r (demote m p s)) q (shared_row r))) (sym k.slot)

@@ -1,5 +1,5 @@
 -- Laws of sharing entries: one, and the walk through all of them in page order.
-use Rattle.std.specs.Prelude.{◌≡◌, ◌≢◌, ℕ, ◌+◌, ◌-◌, ◌^◌, ◌≤◌, ◌<◌, get_or, set}
+use Rattle.std.specs.Prelude.{◌≡◌, ◌≢◌, ℕ, ◌+◌, ◌-◌, ◌^◌, ◌≤◌, ◌<◌, get_or, set, Option, Some, None}
 use Rattle.std.proofs.Math.Path.{refl, ap, sym, subst}
 use Rattle.std.proofs.Common.{◌∙◌, get_or-set_same, get_or-set_other}
 use Rattle.std.proofs.Math.Bool.{true}
@@ -10,8 +10,6 @@ use Rattle.std.proofs.Math.Decide.{ℕ_discrete}
 use Rattle.std.proofs.Math.ListN.{length}
 use Rattle.model.specs.declared.Entry.{Entry}
 use Rattle.model.specs.declared.Backing.{Backing}
-use Rattle.model.specs.declared.Found.{Found}
-use Rattle.model.specs.declared.Found.TheVariants.{At, Nothing}
 use Rattle.laws.specs.Lists.{each}
 use Rattle.model.specs.Machine.{Machine, no_entry, no_backing}
 use Rattle.model.specs.Lookup.{is_found, row_found, free_entry, free_entries}
@@ -74,20 +72,20 @@ module _ (m : Machine) (src row : ℕ) (s : Shareable m src row) where
     -- the row of the next entry
     record Next : Type 0 where
       at : ℕ
-      found : next_entry m.entries src k ≡ At at
-      here : next_entry n.entries src k ≡ At at
+      found : next_entry m.entries src k ≡ Some at
+      here : next_entry n.entries src k ≡ Some at
       owner : (get_or m.entries at no_entry).owner ≡ src + 1
       same : next_at n.entries src k ≡ get_or m.entries at no_entry
 
     next : Next
     next = go (next_entry m.entries src k) refl
       where
-        go : (f : Found) → next_entry m.entries src k ≡ f → Next
-        go Nothing e = let none = ap (λ l. length l) (walk_end m.entries src k e) in let size = g.count in absurd (omega arith)
-        go (At j) e =
+        go : (f : Option ℕ) → next_entry m.entries src k ≡ f → Next
+        go None e = let none = ap (λ l. length l) (walk_end m.entries src k e) in let size = g.count in absurd (omega arith)
+        go (Some j) e =
             let here = next_alike m.entries n.entries src k g.alike ∙ e in
             let owner = (next_found m.entries src k j e).1.owned in
-            record { at = j; found = e; here = here; owner = owner; same = ap (λ (x : Found). get_or n.entries (row_found x) no_entry) here ∙ g.alike.same j owner }
+            record { at = j; found = e; here = here; owner = owner; same = ap (λ (x : Option ℕ). get_or n.entries (row_found x) no_entry) here ∙ g.alike.same j owner }
 
     abbrev e : Entry
     e = get_or m.entries next.at no_entry
@@ -101,7 +99,7 @@ module _ (m : Machine) (src row : ℕ) (s : Shareable m src row) where
         let room = g.room in
         let page = s.pages next.at next.owner in
         let same = ap (λ (x : Entry). x.page.0) next.same in
-        record { found = ap (λ (x : Found). is_found x) next.here; can = record { ready = g.ready; used = subst (λ (x : Entry). (backing_at n x.frame.0).len ≢ 0) (sym next.same) e_used; few = omega arith; entry = omega arith }; page = omega arith }
+        record { found = ap (λ (x : Option ℕ). is_found x) next.here; can = record { ready = g.ready; used = subst (λ (x : Entry). (backing_at n x.frame.0).len ≢ 0) (sym next.same) e_used; few = omega arith; entry = omega arith }; page = omega arith }
 
     -- ---- one shared
 
@@ -185,17 +183,17 @@ module _ (m : Machine) (src row : ℕ) (s : Shareable m src row) where
       go (h ∷ l) e = let size = g.count ∙ ap (λ l. length l) e in absurd (omega arith)
 
 -- a search that found a row found one
-pub next_missing : (f : Found) → is_found f ≡ true → f ≡ Nothing → ⊥
-next_missing f t e = false≢true (ap (λ (x : Found). is_found x) (sym e) ∙ t)
+pub next_missing : (f : Option ℕ) → is_found f ≡ true → f ≡ None → ⊥
+next_missing f t e = false≢true (ap (λ (x : Option ℕ). is_found x) (sym e) ∙ t)
 
-pub next_small : (t : List Entry) (src page i : ℕ) → length t ≡ 512 → next_entry t src page ≡ At i → i < 512
+pub next_small : (t : List Entry) (src page i : ℕ) → length t ≡ 512 → next_entry t src page ≡ Some i → i < 512
 next_small t src page i sized e = let low = (next_found t src page i e).0 in omega arith
 
 -- ---- the entry that was read is the next
 
-module _ (m : Machine) (src page i : ℕ) (x : Entry) (found : next_entry m.entries src page ≡ At i) (read : x ≡ get_or m.entries i no_entry) (k : ShareNext m src page) where
+module _ (m : Machine) (src page i : ℕ) (x : Entry) (found : next_entry m.entries src page ≡ Some i) (read : x ≡ get_or m.entries i no_entry) (k : ShareNext m src page) where
   is_next : x ≡ next_at m.entries src page
-  is_next = read ∙ ap (λ (f : Found). get_or m.entries (row_found f) no_entry) (sym found)
+  is_next = read ∙ ap (λ (f : Option ℕ). get_or m.entries (row_found f) no_entry) (sym found)
 
   pub next_can : CanShare m x.frame.0
   next_can = subst (λ (y : Entry). CanShare m y.frame.0) (sym is_next) k.can

@@ -9,12 +9,12 @@ ghost use Rattle.lookup.specs.NextEntry.{held_of};
 ghost use Rattle.clone_share.specs.ShareNext.{CanShare, ShareNext, Shareable, next_at};
 ghost use Rattle.clone_share.specs.ShareInto.{held_range, Cloneable, shared_into};
 
-use address::{Page, PageTableFlags, PhysFrame, VirtAddr};
+use address::{Page, PhysFrame};
 use backing::holders::hold;
-use clone_pages::{add_entry, single_count};
+use clone_pages::single_count;
 use lookup::backed::next_entry;
-use model::{Found, Region, SLOTS};
-use regions::add::add_region;
+use model::{Region, SLOTS};
+use regions::add::{add_entry, add_region};
 use regions::slot::region_in;
 use remap::demote;
 use rows::pages::entry_at;
@@ -39,14 +39,12 @@ fn share_next(words: &mut [u64], src: u64, row: usize, page: Page) -> Page
     ensures result_value { result.0 ≡ (next_at (machine words.old).entries src page.0).page.0 + 1 }
     ensures words_after { machine words.new ≡ share_entry row (held_of (next_at (machine words.old).entries src page.0)) (machine words.old) }
 {
-    let Found::At(i) = next_entry(&words[..], src, page) else {
+    let Some(i) = next_entry(&words[..], src, page) else {
         return page;
     };
     let e = entry_at(&words[..], i);
-    let at = e.page;
-    let frame = e.frame;
-    share_entry(words, row, at, frame);
-    Page(at.0 + 1)
+    share_entry(words, row, e.page, e.frame);
+    Page(e.page.0 + 1)
 }
 
 // Shares the entries of the region in row `src`, in page order.
@@ -59,10 +57,8 @@ fn share_entries(words: &mut [u64], src: u64, row: usize)
 {
     let n = single_count(&words[..], src);
     let mut page = Page(0);
-    let mut i = 0;
-    while i < n {
+    for i in 0..n {
         page = share_next(words, src, row, page);
-        i += 1;
     }
 }
 
@@ -72,30 +68,17 @@ fn hold_range(words: &mut [u64], region: Region)
     requires range_bound { region.ranged ≡ 1 → region.range.0 < 256 }
     ensures { machine words.new ≡ held_range (machine words.old) region }
 {
-    if region.ranged == 1 {
-        hold(words, region.range);
+    if region.ranged != 1 {
         return;
     }
+    hold(words, region.range);
 }
 
 // The row of a region's clone: the same, with no pins.
 fn shared_row(region: Region) -> Region
     ensures { result ≡ shared_row region }
 {
-    Region {
-        kind: region.kind,
-        start: VirtAddr(region.start.0),
-        size: region.size,
-        flags: PageTableFlags(region.flags.0),
-        fork: region.fork,
-        per_thread: region.per_thread,
-        pins: 0,
-        file: region.file,
-        offset: region.offset,
-        length: region.length,
-        ranged: region.ranged,
-        range: PhysFrame(region.range.0),
-    }
+    Region { pins: 0, ..region }
 }
 
 // Clones the region in a slot into a free slot of a process, sharing its backings.

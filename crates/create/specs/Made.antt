@@ -1,7 +1,5 @@
 -- What making a planned region leaves: a run's frames zeroed and claimed, the row put last in the list.
-use Rattle.std.specs.Prelude.{◌≡◌, true, List, ℕ, ◌+◌, ◌*◌, ◌≤◌, ◌<◌}
-use Rattle.model.specs.declared.Found.{Found}
-use Rattle.model.specs.declared.Found.TheVariants.{At, Nothing}
+use Rattle.std.specs.Prelude.{◌≡◌, true, List, ℕ, ◌+◌, ◌*◌, ◌≤◌, ◌<◌, Option, Some, None}
 use Rattle.model.specs.declared.Region.{Region}
 use Rattle.model.specs.Machine.{Machine, State, with_machine}
 use Rattle.model.specs.Lookup.{pages_for}
@@ -20,17 +18,17 @@ with_range r start ranged range =
 -- ---- the run
 
 -- a run has rows and bytes
-abbrev pub RunFits : Found → ℕ → ℕ → Type 0
-RunFits Nothing n size = Unit {0}
-RunFits (At f) n size = (f < 256) × (f * 4096 + n * 4096 ≤ size)
+abbrev pub RunFits : Option ℕ → ℕ → ℕ → Type 0
+RunFits None n size = Unit {0}
+RunFits (Some f) n size = (f < 256) × (f * 4096 + n * 4096 ≤ size)
 
-unfoldable pub run_claimed : Machine → Found → ℕ → Machine
-run_claimed m Nothing n = m
-run_claimed m (At f) n = claimed m f n
+unfoldable pub run_claimed : Machine → Option ℕ → ℕ → Machine
+run_claimed m None n = m
+run_claimed m (Some f) n = claimed m f n
 
-unfoldable pub run_zeroed : List ℕ → Found → ℕ → List ℕ
-run_zeroed l Nothing n = l
-run_zeroed l (At f) n = zero_frames f n l
+unfoldable pub run_zeroed : List ℕ → Option ℕ → ℕ → List ℕ
+run_zeroed l None n = l
+run_zeroed l (Some f) n = zero_frames f n l
 
 -- ---- the region
 

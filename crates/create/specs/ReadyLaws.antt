@@ -1,8 +1,7 @@
 -- What the searches and the puts ask of a sound machine.
-use Rattle.std.specs.Prelude.{◌≡◌, List, ℕ, ◌<◌}
+use Rattle.std.specs.Prelude.{◌≡◌, List, ℕ, ◌<◌, Option}
 use Rattle.std.proofs.Common.{ap, ◌∙◌, arith}
 use Rattle.laws.specs.TellsLaws.{told}
-use Rattle.model.specs.declared.Found.{Found}
 use Rattle.model.specs.declared.Place.{Place}
 use Rattle.model.specs.Layout.{machine}
 use Rattle.model.specs.Machine.{process_at}
@@ -28,7 +27,7 @@ module _ (w : List ℕ) (s : SoundWords w) where
 
   -- the spot that a search finds is the model's
   pub words_spot :
-      (p : ℕ) (place : Place) (len n : ℕ) (x : Found) → (ProcessesFit (machine w) → x ≡ spot (machine w) p place len) → len ≡ n → x ≡ spot (machine w) p place n
+      (p : ℕ) (place : Place) (len n : ℕ) (x : Option ℕ) → (ProcessesFit (machine w) → x ≡ spot (machine w) p place len) → len ≡ n → x ≡ spot (machine w) p place n
   words_spot p place len n x e l = e words_processes ∙ ap (λ (k : ℕ). spot (machine w) p place k) l
 
   pub words_ready : Ready (machine w)

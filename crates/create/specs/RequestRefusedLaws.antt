@@ -1,21 +1,20 @@
 -- Laws of `RequestRefused`: the tests of what was asked for, and which of them refuses: one law for each way through the code.
-use Rattle.std.specs.Prelude.{◌≡◌, ◌≢◌, Bool, true, false, ◌||◌, not, cond, [], ◌∷◌, ℕ, ◌+◌, ◌-◌, ◌^◌, ◌≤◌, ◌<◌, eqb, ltb, leb}
+use Rattle.std.specs.Prelude.{◌≡◌, ◌≢◌, Bool, true, false, ◌||◌, not, cond, [], ◌∷◌, ℕ, ◌+◌, ◌-◌, ◌^◌, ◌≤◌, ◌<◌, eqb, ltb, leb, Option, Some, None, Result, Ok, Err, ⊤, is_some}
 use Rattle.std.proofs.Math.Path.{refl}
 use Rattle.std.proofs.Common.{ap, sym, ◌∙◌, arith}
 use Rattle.std.proofs.lemmas.Bool.{false≢true}
 use Rattle.std.proofs.Math.Bool.{or-false}
 use borrow.Author.Tests.{eq-eqb, ne_eqb, lt-ltb, le-ltb, ltb-false, not-false}
+use Rattle.answers.specs.declared.Refusal.{Refusal}
 use Rattle.laws.specs.BoolLaws.{or_right, or_none}
+use Rattle.laws.specs.ResultLaws.{none_not_some, some_not_none}
 use Rattle.address.specs.declared.VirtAddr.{VirtAddr}
 use Rattle.address.specs.declared.flags.PageTableFlags.{PageTableFlags}
-use Rattle.address.specs.declared.flags.CheckedFlags.TheVariants.{Good, Bad}
 use Rattle.address.specs.Canonical.{user}
 use Rattle.address.specs.Flags.{good_flags, checked_flags}
 use Rattle.address.specs.Pages.{aligned}
 use Rattle.laws.specs.TellsLaws.{tells_same}
 use Rattle.answers.specs.declared.Refusal.TheVariants.{NoProcess, BadAddress, BadRange, BadFlags, NoFile}
-use Rattle.model.specs.declared.Done.{Done}
-use Rattle.model.specs.declared.Done.TheVariants.{Yes, No}
 use Rattle.model.specs.declared.Place.{Place}
 use Rattle.model.specs.declared.Region.{Region}
 use Rattle.model.specs.Machine.{Machine}
@@ -93,25 +92,31 @@ module _ (place : Place) (r : Region) (b : Bool) (e : b ≡ bad_size r) where
 
 -- ---- flags, a file
 
-flags_told : (b : Bool) (n : ℕ) → (f : PageTableFlags) → Good f ≡ cond b (Good (record { 0 = n })) Bad → b ≡ true
+flags_told : (b : Bool) (n : ℕ) (f : PageTableFlags) → ◌≡◌ {A = Option PageTableFlags} (Some f) (cond b (Some (record { 0 = n })) None) → b ≡ true
 flags_told true n f e = refl
-flags_told false n f e = let z : ◌≡◌ {A = ℕ} 0 1 = cc in absurd (omega arith)
+flags_told false n f e = absurd (some_not_none e)
 
-flags_not_told : (b : Bool) (n : ℕ) → Bad ≡ cond b (Good (record { 0 = n })) Bad → b ≡ false
-flags_not_told true n e = let z : ◌≡◌ {A = ℕ} 0 1 = cc in absurd (omega arith)
+flags_not_told : (b : Bool) (n : ℕ) → ◌≡◌ {A = Option PageTableFlags} None (cond b (Some (record { 0 = n })) None) → b ≡ false
+flags_not_told true n e = absurd (none_not_some e)
 flags_not_told false n e = refl
 
 module _ (r : Region) where
   pub flags_shared : r.kind ≡ 3 → false ≡ bad_flags r
   flags_shared e = rw (eq-eqb r.kind 3 e) refl
 
-  pub flags_good : r.kind ≢ 3 → (f : PageTableFlags) → Good f ≡ checked_flags r.flags.0 → false ≡ bad_flags r
+  pub flags_good : r.kind ≢ 3 → (f : PageTableFlags) → Some f ≡ checked_flags r.flags.0 → false ≡ bad_flags r
   unfolding checked_flags
   flags_good n f e = rw (ne_eqb r.kind 3 n, flags_told (good_flags r.flags.0) r.flags.0 f e) refl
 
-  pub flags_bad : r.kind ≢ 3 → Bad ≡ checked_flags r.flags.0 → true ≡ bad_flags r
+  pub flags_bad : r.kind ≢ 3 → None ≡ checked_flags r.flags.0 → true ≡ bad_flags r
   unfolding checked_flags
   flags_bad n e = rw (ne_eqb r.kind 3 n, flags_not_told (good_flags r.flags.0) r.flags.0 e) refl
+
+  pub flags_tested : r.kind ≢ 3 → (o : Option PageTableFlags) → o ≡ checked_flags r.flags.0 → (b : Bool) → is_some o ≡ not b → b ≡ bad_flags r
+  flags_tested n (Some f) e true t = absurd (false≢true (sym t))
+  flags_tested n (Some f) e false t = flags_good n f e
+  flags_tested n None e true t = flags_bad n e
+  flags_tested n None e false t = absurd (false≢true t)
 
 module _ (m : Machine) (r : Region) where
   pub file_none : r.kind ≢ 2 → false ≡ file_missing m r
@@ -123,45 +128,45 @@ module _ (m : Machine) (r : Region) where
 -- ---- which test refuses
 
 module _ (m : Machine) (p : ℕ) (place : Place) (r : Region) where
-  abbrev asked : Done
+  abbrev asked : Result ⊤ Refusal
   asked = first_of (request_refusals m p place r)
 
-  pub request_closed : is_open m p ≡ false → No NoProcess ≡ asked
+  pub request_closed : is_open m p ≡ false → Err NoProcess ≡ asked
   unfolding request_refusals
   request_closed o = first_here _ NoProcess _ (not_no _ o)
 
   module _ (o : is_open m p ≡ true) where
-    pub request_start : bad_start place ≡ true → No BadAddress ≡ asked
+    pub request_start : bad_start place ≡ true → Err BadAddress ≡ asked
     unfolding request_refusals
     request_start s = first_later _ NoProcess _ _ (not_yes _ o) (first_here _ BadAddress _ s)
 
     module _ (s : bad_start place ≡ false) where
-      pub request_range : bad_range place r ≡ true → No BadRange ≡ asked
+      pub request_range : bad_range place r ≡ true → Err BadRange ≡ asked
       unfolding request_refusals
       request_range g = first_later _ NoProcess _ _ (not_yes _ o) (first_later _ BadAddress _ _ s (first_here _ BadRange _ g))
 
       module _ (g : bad_range place r ≡ false) where
-        pub request_flags : bad_flags r ≡ true → No BadFlags ≡ asked
+        pub request_flags : bad_flags r ≡ true → Err BadFlags ≡ asked
         unfolding request_refusals
         request_flags f = first_later _ NoProcess _ _ (not_yes _ o) (first_later _ BadAddress _ _ s (first_later _ BadRange _ _ g (first_here _ BadFlags _ f)))
 
         module _ (f : bad_flags r ≡ false) where
-          past_flags : {d : Done} → d ≡ first_of ((file_missing m r, NoFile) ∷ []) → d ≡ asked
+          past_flags : {d : Result ⊤ Refusal} → d ≡ first_of ((file_missing m r, NoFile) ∷ []) → d ≡ asked
           unfolding request_refusals
           past_flags e = first_later _ NoProcess _ _ (not_yes _ o) (first_later _ BadAddress _ _ s (first_later _ BadRange _ _ g (first_later _ BadFlags _ _ f e)))
 
-          pub request_file : file_missing m r ≡ true → No NoFile ≡ asked
+          pub request_file : file_missing m r ≡ true → Err NoFile ≡ asked
           request_file h = past_flags (first_here _ NoFile _ h)
 
-          pub request_fine : file_missing m r ≡ false → Yes ≡ asked
+          pub request_fine : file_missing m r ≡ false → Ok tt ≡ asked
           request_fine h = past_flags (first_later _ NoFile _ _ h first_none)
 
   -- where none refuses, the process is open and the size fits
-  pub request_open : Yes ≡ asked → is_open m p ≡ true
+  pub request_open : Ok tt ≡ asked → is_open m p ≡ true
   unfolding request_refusals
   request_open e = not-false _ (first_passed _ NoProcess _ e).0
 
-  pub request_size : Yes ≡ asked → r.size ≤ 2 ^ 47
+  pub request_size : Ok tt ≡ asked → r.size ≤ 2 ^ 47
   unfolding request_refusals
   request_size e =
       let one = first_passed _ NoProcess _ e in

@@ -7,7 +7,9 @@ ghost use Rattle.rows.specs.LentMemory.{SoundFrames, Does};
 
 use crate::make::create;
 use crate::wanted::{file_row, private_row, shared_row};
-use model::{ForkPolicy, Place, Placed, Population};
+use address::VirtAddr;
+use answers::Refusal;
+use model::{ForkPolicy, Place, Population};
 
 // A Private region, lazy or eager.
 pub fn create_private(
@@ -20,7 +22,7 @@ pub fn create_private(
     flags: u64,
     fork: ForkPolicy,
     thread: bool,
-) -> Placed
+) -> Result<VirtAddr, Refusal>
     requires words_len { length words.old ≡ word_count }
     requires sound_frames { SoundFrames words.old frames.old }
     ensures { Does (λ s. create_private s process place (is_eager population) size flags (is_copy fork) thread) words.old frames.old words.new frames.new result }
@@ -48,7 +50,7 @@ pub fn create_file(
     file: u64,
     offset: u64,
     len: u64,
-) -> Placed
+) -> Result<VirtAddr, Refusal>
     requires words_len { length words.old ≡ word_count }
     requires sound_frames { SoundFrames words.old frames.old }
     ensures { Does (λ s. create_file s process place size flags (is_copy fork) thread file offset len) words.old frames.old words.new frames.new result }
@@ -70,7 +72,7 @@ pub fn create_shared(
     process: u64,
     place: Place,
     size: u64,
-) -> Placed
+) -> Result<VirtAddr, Refusal>
     requires words_len { length words.old ≡ word_count }
     requires sound_frames { SoundFrames words.old frames.old }
     ensures { Does (λ s. create_shared s process place size) words.old frames.old words.new frames.new result }

@@ -7,31 +7,27 @@ ghost use Rattle.backing.specs.BackingSteps.{found_frame};
 ghost use Rattle.create.specs.Made.{RunFits, run_claimed, run_zeroed, Makes};
 ghost use Rattle.create.specs.Plans.{PlanFits};
 
-use crate::plan::{Plan, Planned, plan_for};
+use crate::plan::{Plan, plan_for};
 use crate::wanted::placed_at;
-use backing::free::FoundFrame;
+use address::{PhysFrame, VirtAddr};
+use answers::Refusal;
 use backing::holders::claim;
 use frames::zero_run;
-use model::{Place, Placed, Region};
+use model::{Place, Region};
 use regions::add::add_region;
 use rows::sizes::pages_for;
 
 // The run that a region is made with: its frames zeroed, and a backing of them claimed.
-fn take_run(words: &mut [u64], frames: &mut [u8], run: FoundFrame, count: u64)
+fn take_run(words: &mut [u64], frames: &mut [u8], run: Option<PhysFrame>, count: u64)
     requires words_len { length words.old ≡ word_count }
     requires run_fits { RunFits (found_frame run) count (length frames.old) }
     ensures words_after { machine words.new ≡ run_claimed (machine words.old) (found_frame run) count }
     ensures frames_after { frames.new ≡ run_zeroed frames.old (found_frame run) count }
 {
-    match run {
-        FoundFrame::At(frame) => {
-            zero_run(frames, frame, count as usize);
-            claim(words, frame, count);
-            return;
-        }
-        FoundFrame::Nothing => {
-            return;
-        }
+    if let Some(frame) = run {
+        zero_run(frames, frame, count as usize);
+        claim(words, frame, count);
+        return;
     }
 }
 
@@ -43,10 +39,8 @@ fn make(words: &mut [u64], frames: &mut [u8], process: usize, region: Region, pl
     requires plan_fits { PlanFits (machine words.old) process region plan }
     ensures { Makes process region plan words.old frames.old words.new frames.new }
 {
-    let run = plan.run;
-    take_run(words, frames, run, pages_for(region.size));
-    let start = plan.start;
-    let row = placed_at(region, start, run);
+    take_run(words, frames, plan.run, pages_for(region.size));
+    let row = placed_at(region, plan.start, plan.run);
     add_region(words, process, plan.slot, row);
 }
 
@@ -58,19 +52,12 @@ pub fn create(
     place: Place,
     eager: bool,
     region: Region,
-) -> Placed
+) -> Result<VirtAddr, Refusal>
     requires words_len { length words.old ≡ word_count }
     requires sound_frames { SoundFrames words.old frames.old }
     ensures { Does (λ s. create s process place eager region) words.old frames.old words.new frames.new result }
 {
-    match plan_for(&words[..], process, place, eager, region) {
-        Planned::No(refusal) => {
-            return Placed::No(refusal);
-        }
-        Planned::Go(way) => {
-            make(words, frames, process as usize, region, way);
-            let start = way.start;
-            return Placed::At(start);
-        }
-    }
+    let plan = plan_for(&words[..], process, place, eager, region)?;
+    make(words, frames, process as usize, region, plan);
+    Ok(plan.start)
 }

@@ -8,12 +8,12 @@ ghost use Rattle.backing.specs.BackingSteps.{found_frame};
 ghost use Rattle.create.specs.Plans.{run_for, searched, planned};
 
 use crate::refusals::request_refusal;
-use address::VirtAddr;
+use address::{PhysFrame, VirtAddr};
 use answers::Refusal;
-use backing::free::{FoundFrame, lowest_run};
+use backing::free::lowest_run;
 use lookup::search::free_slot;
-use model::{Done, Found, Place, Region, SHARED};
-use reserve::lowest::{FoundSpot, spot};
+use model::{Place, Region, SHARED};
+use reserve::lowest::spot;
 use rows::sizes::{pages_for, segment_len};
 
 // The start of a new region, its slot, and the first frame of its range, if it is to have one.
@@ -21,14 +21,7 @@ use rows::sizes::{pages_for, segment_len};
 pub struct Plan {
     pub start: VirtAddr,
     pub slot: usize,
-    pub run: FoundFrame,
-}
-
-// A plan, or the refusal.
-#[derive(Clone, Copy)]
-pub enum Planned {
-    Go(Plan),
-    No(Refusal),
+    pub run: Option<PhysFrame>,
 }
 
 // Whether a region is made with a range.
@@ -42,7 +35,7 @@ fn is_run_needed(eager: bool, region: Region) -> bool
 }
 
 // The lowest run that fits, where the region is made with a range.
-fn run_for(words: &[u64], eager: bool, region: Region) -> FoundFrame
+fn run_for(words: &[u64], eager: bool, region: Region) -> Option<PhysFrame>
     requires words_len { length words.now ≡ word_count }
     requires sound_words { SoundWords words.now }
     ensures { found_frame result ≡ run_for (machine words.now) eager region }
@@ -50,17 +43,17 @@ fn run_for(words: &[u64], eager: bool, region: Region) -> FoundFrame
     if is_run_needed(eager, region) {
         return lowest_run(words, pages_for(region.size));
     }
-    FoundFrame::Nothing
+    None
 }
 
 // Whether the range that a region is made with was not found.
-fn lacks_run(eager: bool, region: Region, run: FoundFrame) -> bool
+fn lacks_run(eager: bool, region: Region, run: Option<PhysFrame>) -> bool
     ensures { result ≡ run_needed eager region && not (is_found (found_frame run)) }
 {
-    let FoundFrame::At(_) = run else {
-        return is_run_needed(eager, region);
-    };
-    false
+    if run.is_some() {
+        return false;
+    }
+    is_run_needed(eager, region)
 }
 
 // Which refusal says that there is no spot.
@@ -74,7 +67,13 @@ fn spot_refusal(place: Place) -> Refusal
 }
 
 // The searches, for what may be asked for, then their refusals in order: no spot, no run, no slot.
-fn search(words: &[u64], process: usize, place: Place, eager: bool, region: Region) -> Planned
+fn search(
+    words: &[u64],
+    process: usize,
+    place: Place,
+    eager: bool,
+    region: Region,
+) -> Result<Plan, Refusal>
     requires words_len { length words.now ≡ word_count }
     requires sound_words { SoundWords words.now }
     requires process_bound { process < 8 }
@@ -85,20 +84,12 @@ fn search(words: &[u64], process: usize, place: Place, eager: bool, region: Regi
     let run = run_for(words, eager, region);
     let free = free_slot(words, process);
     let no_spot = spot_refusal(place);
-    let FoundSpot::At(start) = at else {
-        return Planned::No(no_spot);
-    };
+    let start = at.ok_or(no_spot)?;
     if lacks_run(eager, region, run) {
-        return Planned::No(Refusal::OutOfMemory);
+        return Err(Refusal::OutOfMemory);
     }
-    let Found::At(slot) = free else {
-        return Planned::No(Refusal::TableFull);
-    };
-    Planned::Go(Plan {
-        start: start,
-        slot: slot,
-        run: run,
-    })
+    let slot = free.ok_or(Refusal::TableFull)?;
+    Ok(Plan { start, slot, run })
 }
 
 // The refusals of creation in the order of their numbers, or how it goes on.
@@ -108,17 +99,11 @@ pub(crate) fn plan_for(
     place: Place,
     eager: bool,
     region: Region,
-) -> Planned
+) -> Result<Plan, Refusal>
     requires words_len { length words.now ≡ word_count }
     requires sound_words { SoundWords words.now }
     ensures { result ≡ planned (machine words.now) process place eager region }
 {
-    match request_refusal(words, process, place, region) {
-        Done::No(refusal) => {
-            return Planned::No(refusal);
-        }
-        Done::Yes => {
-            return search(words, process as usize, place, eager, region);
-        }
-    }
+    request_refusal(words, process, place, region)?;
+    search(words, process as usize, place, eager, region)
 }

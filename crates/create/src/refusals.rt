@@ -5,10 +5,10 @@ ghost use Rattle.model.specs.Answers.{first_of};
 ghost use Rattle.model.specs.Create.{bad_start, bad_place, bad_size};
 ghost use Rattle.create.specs.RequestRefused.{bad_range, bad_flags, file_missing, request_refusals};
 
-use address::{CheckedFlags, PageTableFlags, USER_END};
+use address::{PageTableFlags, USER_END};
 use answers::Refusal;
 use lookup::search::is_open;
-use model::{Done, FILE_BACKED, Place, Region, SHARED};
+use model::{FILE_BACKED, Place, Region, SHARED};
 use rows::files::file_count;
 use rows::sizes::segment_len;
 
@@ -73,14 +73,7 @@ fn has_bad_flags(region: Region) -> bool
     if region.kind == SHARED {
         return false;
     }
-    match PageTableFlags::from_bits(region.flags.0) {
-        CheckedFlags::Good(_) => {
-            return false;
-        }
-        CheckedFlags::Bad => {
-            return true;
-        }
-    }
+    PageTableFlags::from_bits(region.flags.0).is_none()
 }
 
 // Whether a FileBacked region names no file.
@@ -95,24 +88,29 @@ fn names_no_file(words: &[u64], region: Region) -> bool
 }
 
 // What is wrong with what was asked for, before anything is searched.
-pub(crate) fn request_refusal(words: &[u64], process: u64, place: Place, region: Region) -> Done
+pub(crate) fn request_refusal(
+    words: &[u64],
+    process: u64,
+    place: Place,
+    region: Region,
+) -> Result<(), Refusal>
     requires { length words.now ≡ word_count }
     ensures { result ≡ first_of (request_refusals (machine words.now) process place region) }
 {
     if !is_open(words, process) {
-        return Done::No(Refusal::NoProcess);
+        return Err(Refusal::NoProcess);
     }
     if is_bad_start(place) {
-        return Done::No(Refusal::BadAddress);
+        return Err(Refusal::BadAddress);
     }
     if is_bad_range(place, region) {
-        return Done::No(Refusal::BadRange);
+        return Err(Refusal::BadRange);
     }
     if has_bad_flags(region) {
-        return Done::No(Refusal::BadFlags);
+        return Err(Refusal::BadFlags);
     }
     if names_no_file(words, region) {
-        return Done::No(Refusal::NoFile);
+        return Err(Refusal::NoFile);
     }
-    Done::Yes
+    Ok(())
 }

@@ -5,17 +5,13 @@ ghost use Rattle.backing.specs.BackingSteps.{found_frame};
 ghost use Rattle.create.specs.Made.{with_range};
 
 use address::{PageTableFlags, PhysFrame, VirtAddr};
-use backing::free::FoundFrame;
 use model::{COPY_ON_WRITE, FILE_BACKED, ForkPolicy, PRIVATE, Region, SHARED};
 
 // A mark in a row.
 fn mark(b: bool) -> u64
     ensures { result ≡ one b }
 {
-    if b {
-        return 1;
-    }
-    0
+    u64::from(b)
 }
 
 // A Private region as it is asked for.
@@ -27,10 +23,10 @@ pub fn private_row(size: u64, flags: u64, fork: ForkPolicy, thread: bool) -> Reg
     Region {
         kind: PRIVATE,
         start: VirtAddr(0),
-        size: size,
+        size,
         flags: PageTableFlags(flags),
-        fork: fork,
-        per_thread: per_thread,
+        fork,
+        per_thread,
         pins: 0,
         file: 0,
         offset: 0,
@@ -57,13 +53,13 @@ pub fn file_row(
     Region {
         kind: FILE_BACKED,
         start: VirtAddr(0),
-        size: size,
+        size,
         flags: PageTableFlags(flags),
-        fork: fork,
-        per_thread: per_thread,
+        fork,
+        per_thread,
         pins: 0,
-        file: file,
-        offset: offset,
+        file,
+        offset,
         length: len,
         ranged: 0,
         range: PhysFrame(0),
@@ -77,7 +73,7 @@ pub fn shared_row(size: u64) -> Region
     Region {
         kind: SHARED,
         start: VirtAddr(0),
-        size: size,
+        size,
         flags: PageTableFlags(0),
         fork: COPY_ON_WRITE,
         per_thread: 0,
@@ -95,31 +91,20 @@ fn with_range(region: Region, start: VirtAddr, ranged: u64, range: PhysFrame) ->
     ensures { result ≡ with_range region start.0 ranged range.0 }
 {
     Region {
-        kind: region.kind,
-        start: start,
-        size: region.size,
-        flags: PageTableFlags(region.flags.0),
-        fork: region.fork,
-        per_thread: region.per_thread,
+        start,
         pins: 0,
-        file: region.file,
-        offset: region.offset,
-        length: region.length,
-        ranged: ranged,
-        range: range,
+        ranged,
+        range,
+        ..region
     }
 }
 
 // A region as it is stored: with its start, and its range if it has one.
-pub(crate) fn placed_at(region: Region, start: VirtAddr, run: FoundFrame) -> Region
+pub(crate) fn placed_at(region: Region, start: VirtAddr, run: Option<PhysFrame>) -> Region
     ensures { result ≡ placed_at region start.0 (found_frame run) }
 {
     match run {
-        FoundFrame::At(frame) => {
-            return with_range(region, start, 1, frame);
-        }
-        FoundFrame::Nothing => {
-            return with_range(region, start, 0, PhysFrame(0));
-        }
+        Some(frame) => with_range(region, start, 1, frame),
+        None => with_range(region, start, 0, PhysFrame(0)),
     }
 }

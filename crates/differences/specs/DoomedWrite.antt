@@ -1,9 +1,8 @@
 -- Request 2026-01: which way the Rust goes at a fault, and the one case in which a fault goes another way.
-use Rattle.std.specs.Prelude.{Bool, false, not, ◌&&◌, cond, ℕ}
+use Rattle.std.specs.Prelude.{Bool, false, not, ◌&&◌, cond, ℕ, Option, Some, None}
+use Rattle.model.specs.declared.Mapping.{Mapping}
 use Rattle.answers.specs.declared.Refusal.TheVariants.{NotAccessible}
 use Rattle.model.specs.declared.Region.{Region}
-use Rattle.model.specs.declared.Translated.{Translated}
-use Rattle.model.specs.declared.Translated.TheVariants.{Mapped, NotMapped}
 use Rattle.model.specs.declared.Backed.{Backed}
 use Rattle.model.specs.declared.Backed.TheVariants.{ByEntry, ByRange, Unbacked}
 use Rattle.model.specs.declared.Way.{Way}
@@ -22,9 +21,9 @@ rust_unmapped r (ByEntry i f n) w = backed_way r f n w
 rust_unmapped r (ByRange f n) w = backed_way r f n w
 rust_unmapped r Unbacked w = Fill
 
-abbrev pub rust_translated : Region → Translated → Backed → Bool → Way
-rust_translated r (Mapped x) b w = cond (well_mapped (Mapped x) w) Already (mapped_way r b)
-rust_translated r NotMapped b w = rust_unmapped r b w
+abbrev pub rust_translated : Region → Option Mapping → Backed → Bool → Way
+rust_translated r (Some x) b w = cond (well_mapped (Some x) w) Already (mapped_way r b)
+rust_translated r None b w = rust_unmapped r b w
 
 unfoldable pub rust_way : Machine → ℕ → ℕ → ℕ → Bool → Way
 rust_way m p s page w =
@@ -40,11 +39,11 @@ rust_fault s p slot page w =
 
 -- ---- the doomed write: not mapped, not backed, a region with user access and without WRITABLE that is not Shared, a write
 
-abbrev pub doomed_page : Region → Translated → Backed → Bool → Bool
-doomed_page r (Mapped x) b w = false
-doomed_page r NotMapped (ByEntry i f n) w = false
-doomed_page r NotMapped (ByRange f n) w = false
-doomed_page r NotMapped Unbacked w = not (is_writable r.flags.0) && w
+abbrev pub doomed_page : Region → Option Mapping → Backed → Bool → Bool
+doomed_page r (Some x) b w = false
+doomed_page r None (ByEntry i f n) w = false
+doomed_page r None (ByRange f n) w = false
+doomed_page r None Unbacked w = not (is_writable r.flags.0) && w
 
 unfoldable pub doomed : Machine → ℕ → ℕ → ℕ → Bool → Bool
 doomed m p s page w =

@@ -1,13 +1,12 @@
 -- Laws of request 2026-01: a doomed write is refused at once and nothing changes, where the Rust spends a frame; every other fault is the Rust's.
-use Rattle.std.specs.Prelude.{◌≡◌, refl, Bool, true, false, not, ◌&&◌, ℕ}
+use Rattle.std.specs.Prelude.{◌≡◌, refl, Bool, true, false, not, ◌&&◌, ℕ, Option, Some, None}
 use Rattle.std.proofs.Math.Path.{ap}
 use Rattle.std.proofs.Common.{◌∙◌, true≢false}
 use Rattle.std.proofs.Math.Bool.{cond}
 use Rattle.std.proofs.lemmas.Bool.{false≢true}
+use Rattle.model.specs.declared.Mapping.{Mapping}
 use Rattle.answers.specs.declared.Refusal.TheVariants.{NotAccessible, NotWritable}
 use Rattle.model.specs.declared.Region.{Region}
-use Rattle.model.specs.declared.Translated.{Translated}
-use Rattle.model.specs.declared.Translated.TheVariants.{Mapped, NotMapped}
 use Rattle.model.specs.declared.Backed.{Backed}
 use Rattle.model.specs.declared.Backed.TheVariants.{ByEntry, ByRange, Unbacked}
 use Rattle.model.specs.declared.Way.{Way}
@@ -55,27 +54,27 @@ taken_not false d x y z e f = f e
 -- ---- one page
 
 module _ (r : Region) where
-  page_stays : (t : Translated) (b : Backed) (w : Bool) → doomed_page r t b w ≡ false → translated_way r t b w ≡ rust_translated r t b w
-  page_stays (Mapped x) b w e = refl
-  page_stays NotMapped (ByEntry i f n) w e = refl
-  page_stays NotMapped (ByRange f n) w e = refl
-  page_stays NotMapped Unbacked w e = bare_stays (is_writable r.flags.0) w e
+  page_stays : (t : Option Mapping) (b : Backed) (w : Bool) → doomed_page r t b w ≡ false → translated_way r t b w ≡ rust_translated r t b w
+  page_stays (Some x) b w e = refl
+  page_stays None (ByEntry i f n) w e = refl
+  page_stays None (ByRange f n) w e = refl
+  page_stays None Unbacked w e = bare_stays (is_writable r.flags.0) w e
 
-  page_refused : (t : Translated) (b : Backed) (w : Bool) → doomed_page r t b w ≡ true → translated_way r t b w ≡ Refuse NotWritable
-  page_refused (Mapped x) b w e = absurd (false≢true e)
-  page_refused NotMapped (ByEntry i f n) w e = absurd (false≢true e)
-  page_refused NotMapped (ByRange f n) w e = absurd (false≢true e)
-  page_refused NotMapped Unbacked w e = bare_refused (is_writable r.flags.0) w e
+  page_refused : (t : Option Mapping) (b : Backed) (w : Bool) → doomed_page r t b w ≡ true → translated_way r t b w ≡ Refuse NotWritable
+  page_refused (Some x) b w e = absurd (false≢true e)
+  page_refused None (ByEntry i f n) w e = absurd (false≢true e)
+  page_refused None (ByRange f n) w e = absurd (false≢true e)
+  page_refused None Unbacked w e = bare_refused (is_writable r.flags.0) w e
 
-  page_filled : (t : Translated) (b : Backed) (w : Bool) → doomed_page r t b w ≡ true → rust_translated r t b w ≡ Fill
-  page_filled (Mapped x) b w e = absurd (false≢true e)
-  page_filled NotMapped (ByEntry i f n) w e = absurd (false≢true e)
-  page_filled NotMapped (ByRange f n) w e = absurd (false≢true e)
-  page_filled NotMapped Unbacked w e = refl
+  page_filled : (t : Option Mapping) (b : Backed) (w : Bool) → doomed_page r t b w ≡ true → rust_translated r t b w ≡ Fill
+  page_filled (Some x) b w e = absurd (false≢true e)
+  page_filled None (ByEntry i f n) w e = absurd (false≢true e)
+  page_filled None (ByRange f n) w e = absurd (false≢true e)
+  page_filled None Unbacked w e = refl
 
-  page_bare : (t : Translated) (b : Backed) (w : Bool) → doomed_page r t b w ≡ true → well_mapped t w ≡ false
-  page_bare (Mapped x) b w e = absurd (false≢true e)
-  page_bare NotMapped b w e = refl
+  page_bare : (t : Option Mapping) (b : Backed) (w : Bool) → doomed_page r t b w ≡ true → well_mapped t w ≡ false
+  page_bare (Some x) b w e = absurd (false≢true e)
+  page_bare None b w e = refl
 
 -- ---- the way of a fault
 
@@ -83,7 +82,7 @@ module _ (m : Machine) (p s page : ℕ) (w : Bool) where
   abbrev region : Region
   region = region_at m p s
 
-  abbrev mapped : Translated
+  abbrev mapped : Option Mapping
   mapped = translate (mapped_of m p) page
 
   abbrev backed : Backed

@@ -1,9 +1,8 @@
 -- Request 2026-02: how the Rust populates eagerly, for which regions both agree, and the two refusals that eager populate no longer gives.
-use Rattle.std.specs.Prelude.{◌≡◌, Bool, true, not, ◌&&◌, ◌||◌, cond, List, [], ◌∷◌, ℕ, eqb}
+use Rattle.std.specs.Prelude.{◌≡◌, Bool, true, not, ◌&&◌, ◌||◌, cond, List, [], ◌∷◌, ℕ, eqb, Result, Err, ⊤}
+use Rattle.answers.specs.declared.Refusal.{Refusal}
 use Rattle.answers.specs.declared.Refusal.TheVariants.{NotAccessible, NotWritable}
 use Rattle.model.specs.declared.Region.{Region}
-use Rattle.model.specs.declared.Done.{Done}
-use Rattle.model.specs.declared.Done.TheVariants.{No}
 use Rattle.model.specs.Machine.{State, region_at, order_of}
 use Rattle.model.specs.Answers.{Try, fine, and_then}
 use Rattle.model.specs.Lookup.{is_private}
@@ -35,5 +34,5 @@ agreed r = not (is_eager_copy r) || (is_user r.flags.0 && is_writable r.flags.0)
 
 -- ---- what eager populate no longer answers
 
-abbrev pub Allowed : Done → Type 0
-Allowed d = (d ≡ No NotWritable → ⊥) × (d ≡ No NotAccessible → ⊥)
+abbrev pub Allowed : Result ⊤ Refusal → Type 0
+Allowed d = (d ≡ Err NotWritable → ⊥) × (d ≡ Err NotAccessible → ⊥)

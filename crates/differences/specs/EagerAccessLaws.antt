@@ -1,26 +1,21 @@
 -- Laws of request 2026-02: eager populate gives neither NotWritable nor NotAccessible, on any machine; where regions agree it is the Rust's.
-use Rattle.std.specs.Prelude.{◌≡◌, Bool, not, ◌&&◌, ◌||◌, eqb, ltb, get_or}
+use Rattle.std.specs.Prelude.{◌≡◌, Bool, not, ◌&&◌, ◌||◌, eqb, ltb, get_or, Option, Some, None, Result, Ok, Err, ⊤}
 use Rattle.std.proofs.Math.Path.{refl, ap, subst}
 use Rattle.std.proofs.Common.{sym, ◌∙◌, inl, inr, true≢false, arith, eqb-true, ltb-false, le-leb, lt-ltb}
 use Rattle.std.proofs.Math.Bool.{true, false, cond}
 use Rattle.std.proofs.lemmas.Bool.{false≢true}
 use mathlib.Core.List.{List, [], ◌∷◌}
 use Prim.Native.Nat.{ℕ, zero, suc, ◌+◌, ◌/◌, ◌%◌, ◌≤◌}
+use Rattle.model.specs.declared.Mapping.{Mapping}
 use Rattle.address.specs.declared.PhysFrame.{PhysFrame}
 use Rattle.answers.specs.declared.Refusal.{Refusal}
 use Rattle.answers.specs.declared.Refusal.TheVariants.{BadTable, NoProcess}
 use Rattle.answers.specs.Number.{number_of}
 use Rattle.model.specs.declared.Region.{Region}
-use Rattle.model.specs.declared.Found.{Found}
-use Rattle.model.specs.declared.Found.TheVariants.{At, Nothing}
-use Rattle.model.specs.declared.Translated.{Translated}
-use Rattle.model.specs.declared.Translated.TheVariants.{Mapped, NotMapped}
 use Rattle.model.specs.declared.Backed.{Backed}
 use Rattle.model.specs.declared.Backed.TheVariants.{ByEntry, ByRange, Unbacked}
 use Rattle.model.specs.declared.Way.{Way}
 use Rattle.model.specs.declared.Way.TheVariants.{Refuse, Already, Restore, Map, Copy, Fill}
-use Rattle.model.specs.declared.Done.{Done}
-use Rattle.model.specs.declared.Done.TheVariants.{Yes, No}
 use Rattle.model.specs.Machine.{Machine, State, mapped_of, region_at, order_of, row_of, no_region}
 use Rattle.model.specs.Answers.{Try, leaving, fine, first_of, unless, and_then}
 use Rattle.model.specs.Lookup.{contains, region_for, is_shared, is_private, is_open}
@@ -44,29 +39,29 @@ use Rattle.differences.specs.EagerAccess.{is_eager_copy, rust_eagerly, rust_eage
 
 -- ---- an answer by its number, 0 for success
 
-why : Done → ℕ
-why Yes = 0
-why (No r) = number_of r
+why : Result ⊤ Refusal → ℕ
+why (Ok tt) = 0
+why (Err r) = number_of r
 
-abbrev barred : Done → Bool
+abbrev barred : Result ⊤ Refusal → Bool
 unfolding why
 barred d = eqb (why d) 13 || eqb (why d) 12
 
-allowed : (d : Done) → barred d ≡ false → Allowed d
+allowed : (d : Result ⊤ Refusal) → barred d ≡ false → Allowed d
 unfolding why
-allowed d e = ((λ k. clash (ap (λ (x : Done). barred x) k) e), (λ k. clash (ap (λ (x : Done). barred x) k) e))
+allowed d e = ((λ k. clash (ap (λ (x : Result ⊤ Refusal). barred x) k) e), (λ k. clash (ap (λ (x : Result ⊤ Refusal). barred x) k) e))
 
 -- the first of some refusals none of which is barred
 abbrev Fair : List (Bool × Refusal) → Type 0
 Fair [] = Unit {0}
-Fair (t ∷ l) = (barred (No t.1) ≡ false) × Fair l
+Fair (t ∷ l) = (barred (Err t.1) ≡ false) × Fair l
 
 first_fair : (l : List (Bool × Refusal)) → Fair l → barred (first_of l) ≡ false
 unfolding first_of why
 first_fair [] k = refl
 first_fair (t ∷ l) k = go t.0 (first_fair l k.1)
   where
-    go : (b : Bool) → barred (first_of l) ≡ false → barred (cond b (No t.1) (first_of l)) ≡ false
+    go : (b : Bool) → barred (first_of l) ≡ false → barred (cond b (Err t.1) (first_of l)) ≡ false
     go true f = k.0
     go false f = f
 
@@ -74,14 +69,14 @@ first_fair (t ∷ l) k = go t.0 (first_fair l k.1)
 then_fair : (t : Try) (f : State → Try) → barred t.answer ≡ false → barred (f t.state).answer ≡ false → barred (and_then t f).answer ≡ false
 then_fair t f a b = go t.answer t.state a b
   where
-    go : (d : Done) (s : State) → barred d ≡ false → barred (f s).answer ≡ false → barred (and_then (leaving d s) f).answer ≡ false
-    go Yes s a b = b
-    go (No r) s a b = a
+    go : (d : Result ⊤ Refusal) (s : State) → barred d ≡ false → barred (f s).answer ≡ false → barred (and_then (leaving d s) f).answer ≡ false
+    go (Ok tt) s a b = b
+    go (Err r) s a b = a
 
 -- ---- the ways of a fault whose access is the region's own
 
 abbrev Open : Way → Type 0
-Open (Refuse r) = barred (No r) ≡ false
+Open (Refuse r) = barred (Err r) ≡ false
 Open Already = Unit {0}
 Open Restore = Unit {0}
 Open (Map f flags) = Unit {0}
@@ -112,22 +107,22 @@ module _ (r : Region) where
   mapped_open (ByRange f n) e = pick _ _ w (λ u. pick _ _ (eqb n 1) (λ v. tt) (λ v. tt)) (λ u. clash e u)
   mapped_open Unbacked e = pick _ _ w (λ u. refl) (λ u. clash e u)
 
-  translated_open : (t : Translated) (b : Backed) → Open (translated_way r t b w)
-  translated_open (Mapped x) b = pick _ _ (well_mapped (Mapped x) w) (λ u. tt) (λ u. mapped_open b (not_first w (is_writable x.flags.0) u))
-  translated_open NotMapped (ByEntry i f n) = backed_open f n
-  translated_open NotMapped (ByRange f n) = backed_open f n
-  translated_open NotMapped Unbacked = unbacked_open
+  translated_open : (t : Option Mapping) (b : Backed) → Open (translated_way r t b w)
+  translated_open (Some x) b = pick _ _ (well_mapped (Some x) w) (λ u. tt) (λ u. mapped_open b (not_first w (is_writable x.flags.0) u))
+  translated_open None (ByEntry i f n) = backed_open f n
+  translated_open None (ByRange f n) = backed_open f n
+  translated_open None Unbacked = unbacked_open
 
-  private_open : is_user r.flags.0 ≡ true → (t : Translated) (b : Backed) → Open (private_way r t b w)
+  private_open : is_user r.flags.0 ≡ true → (t : Option Mapping) (b : Backed) → Open (private_way r t b w)
   unfolding private_way
   private_open e t b = pick _ _ (is_user r.flags.0) (λ u. translated_open t b) (λ u. clash e u)
 
-shared_open : (t : Translated) (b : Backed) → Open (shared_way t b)
+shared_open : (t : Option Mapping) (b : Backed) → Open (shared_way t b)
 unfolding shared_way why
-shared_open (Mapped x) b = tt
-shared_open NotMapped (ByEntry i f n) = tt
-shared_open NotMapped (ByRange f n) = tt
-shared_open NotMapped Unbacked = refl
+shared_open (Some x) b = tt
+shared_open None (ByEntry i f n) = tt
+shared_open None (ByRange f n) = tt
+shared_open None Unbacked = refl
 
 -- ---- a fault, a page, a walk over a region's pages
 
@@ -154,9 +149,9 @@ module _ (p slot : ℕ) (r : Region) (user : is_user r.flags.0 ≡ true) where
       way : Way
       way = fault_way s.machine p slot page (is_writable r.flags.0)
 
-      go : (d : Done) → barred d ≡ false → barred (unless d s (fine (go_way s p slot page way))).answer ≡ false
-      go Yes k = refl
-      go (No x) k = k
+      go : (d : Result ⊤ Refusal) → barred d ≡ false → barred (unless d s (fine (go_way s p slot page way))).answer ≡ false
+      go (Ok tt) k = refl
+      go (Err x) k = k
 
   page_fair : (s : State) (page : ℕ) → region_at s.machine p slot ≡ r → barred (populate_page s p slot page (is_writable r.flags.0)).answer ≡ false
   unfolding populate_page why
@@ -179,14 +174,14 @@ module _ (p slot : ℕ) (r : Region) (user : is_user r.flags.0 ≡ true) where
       w : Bool
       w = is_writable r.flags.0
 
-      left : Bool → Found → Try
+      left : Bool → Option ℕ → Try
       left b x = elim b [
         | true ↦ fine s
         | false ↦ elim x [
-          | At t ↦ and_then (populate_page s p t page w) (λ u. visit n u p (page + 1) last w)
-          | Nothing ↦ elim (next_start s.machine p page) [
-            | At next ↦ visit n s p next last w
-            | Nothing ↦ fine s
+          | Some t ↦ and_then (populate_page s p t page w) (λ u. visit n u p (page + 1) last w)
+          | None ↦ elim (next_start s.machine p page) [
+            | Some next ↦ visit n s p next last w
+            | None ↦ fine s
           ]
         ]
       ]
@@ -199,7 +194,7 @@ module _ (p slot : ℕ) (r : Region) (user : is_user r.flags.0 ≡ true) where
       go false q more =
           let here : contains (region_at s.machine p slot) (page_start page) ≡ true = subst (λ (x : Region). contains x (page_start page) ≡ true) (sym e) (let k = ltb-false last page q in inside page (omega arith) (omega arith)) in
           let stays = page_stays s p slot page (is_writable r.flags.0) in
-          subst (λ (x : Found). barred (left false x).answer ≡ false) (sym (home_region s.machine (sound_owing s sound) p (page_start page) slot i here))
+          subst (λ (x : Option ℕ). barred (left false x).answer ≡ false) (sym (home_region s.machine (sound_owing s sound) p (page_start page) slot i here))
           (then_fair (populate_page s p slot page (is_writable r.flags.0)) (λ u. visit n u p (page + 1) last (is_writable r.flags.0)) (page_fair s page e)
           (more (populate_page s p slot page (is_writable r.flags.0)).state (page_kept s sound p slot page (is_writable r.flags.0) i here) (page + 1) last
           (subst (λ (l : List ℕ). In slot l) (sym (stays.order p)) i) (ap (λ (l : List Region). get_or l (row_of p slot) no_region) stays.regions ∙ e) (λ pg a b. inside pg (omega arith) b)))
@@ -262,15 +257,15 @@ module _ (p : ℕ) where
       tests : List (Bool × Refusal)
       tests = (not (soundb s), BadTable) ∷ (not (is_open s.machine p), NoProcess) ∷ []
 
-      go : (d : Done) → first_of ((not (soundb s), BadTable) ∷ (not (is_open s.machine p), NoProcess) ∷ []) ≡ d → barred (calls.decided d No s (core_populate_eager_copies s p)).answer ≡ false
-      go Yes e =
+      go : (d : Result ⊤ Refusal) → first_of ((not (soundb s), BadTable) ∷ (not (is_open s.machine p), NoProcess) ∷ []) ≡ d → barred (calls.decided d Err s (core_populate_eager_copies s p)).answer ≡ false
+      go (Ok tt) e =
           let k = (passed ((not (soundb s), BadTable) ∷ (not (is_open s.machine p), NoProcess) ∷ []) e).0 in
           each_fair (order_of s.machine p) s ((sound_tells s).yes (yes (soundb s) k)) (λ t i. i)
         where
           yes : (b : Bool) → not b ≡ false → b ≡ true
           yes true q = refl
           yes false q = absurd (true≢false q)
-      go (No r) e = subst (λ (d : Done). barred d ≡ false) e (first_fair ((not (soundb s), BadTable) ∷ (not (is_open s.machine p), NoProcess) ∷ []) (refl, (refl, tt)))
+      go (Err r) e = subst (λ (d : Result ⊤ Refusal). barred d ≡ false) e (first_fair ((not (soundb s), BadTable) ∷ (not (is_open s.machine p), NoProcess) ∷ []) (refl, (refl, tt)))
 
   -- ---- where both agree
 
@@ -298,9 +293,9 @@ module _ (p : ℕ) where
       then_same : (t : Try) (f g : State → Try) → f t.state ≡ g t.state → and_then t f ≡ and_then t g
       then_same t f g e = go t.answer t.state e
         where
-          go : (d : Done) (s : State) → f s ≡ g s → and_then (leaving d s) f ≡ and_then (leaving d s) g
-          go Yes s e = e
-          go (No r) s e = refl
+          go : (d : Result ⊤ Refusal) (s : State) → f s ≡ g s → and_then (leaving d s) f ≡ and_then (leaving d s) g
+          go (Ok tt) s e = e
+          go (Err r) s e = refl
 
   -- where every attached region agrees, eager populate is the Rust's, answer and state
   pub eager_stays : (s : State) → ((t : ℕ) → In t (order_of s.machine p) → agreed (region_at s.machine p t) ≡ true) → core_populate_eager_copies s p ≡ rust_eager s p

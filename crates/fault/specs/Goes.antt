@@ -1,6 +1,5 @@
 -- What each way of a fault asks of the memory (RULES T1 to T11).
-use Rattle.std.specs.Prelude.{◌≡◌, Bool, true, List, ℕ, ◌+◌, ◌*◌, ◌^◌, ◌≤◌, ◌<◌}
-use Rattle.model.specs.declared.Done.TheVariants.{Yes}
+use Rattle.std.specs.Prelude.{◌≡◌, Bool, true, List, ℕ, ◌+◌, ◌*◌, ◌^◌, ◌≤◌, ◌<◌, Ok}
 use Rattle.model.specs.declared.Way.{Way}
 use Rattle.model.specs.Layout.{machine}
 use Rattle.model.specs.Machine.{Machine, process_at, region_at, order_of}
@@ -32,4 +31,4 @@ FreshFits m size p slot page = (page < 2 ^ 52) × FileReads m size (region_at m 
 pub record Goes (m : Machine) (p slot page : ℕ) (way : Way) : Type 0 where
   pub write : Bool
   pub picked : way ≡ fault_way m p slot page write
-  pub passes : first_of (way_refusals m p slot page way) ≡ Yes
+  pub passes : first_of (way_refusals m p slot page way) ≡ Ok tt

@@ -1,19 +1,17 @@
 -- Laws: each way of a fault on a sound machine has what it asks, and is gone as the model says.
-use Rattle.std.specs.Prelude.{◌≡◌, Bool, ◌&&◌, not, List, ℕ, ◌+◌, ◌*◌, ◌^◌, ◌≤◌, ◌<◌, ltb, leb}
+use Rattle.std.specs.Prelude.{◌≡◌, Bool, ◌&&◌, not, List, ℕ, ◌+◌, ◌*◌, ◌^◌, ◌≤◌, ◌<◌, ltb, leb, Option, Some, None}
 use Rattle.std.proofs.Math.Path.{refl, ap}
 use Rattle.std.proofs.Common.{sym, subst, ◌∙◌, inl, inr}
 use Rattle.std.proofs.Math.Bool.{true, false}
 use native.Mathlib.Omega.{arith}
 use Rattle.std.proofs.Math.ListN.{length}
 use borrow.Author.Tests.{leb-true, leb-false, ltb-true}
+use Rattle.model.specs.declared.Mapping.{Mapping}
 use Rattle.address.specs.declared.PhysFrame.{PhysFrame}
 use Rattle.address.specs.declared.flags.PageTableFlags.{PageTableFlags}
 use Rattle.answers.specs.declared.Refusal.{Refusal}
 use Rattle.model.specs.declared.Region.{Region}
 use Rattle.model.specs.declared.Pool.{Pool}
-use Rattle.model.specs.declared.Translated.{Translated}
-use Rattle.model.specs.declared.Translated.TheVariants.{Mapped, NotMapped}
-use Rattle.model.specs.declared.Found.TheVariants.{At}
 use Rattle.model.specs.declared.Way.{Way}
 use Rattle.model.specs.declared.Way.TheVariants.{Refuse, Already, Restore, Map, Copy, Fill}
 use Rattle.model.specs.Layout.{machine}
@@ -90,7 +88,7 @@ module _ (w f b : List ℕ) (p slot page : ℕ) (fits : FaultFits w f b p slot p
   next_fits e = let k = (next_run nothing m o e).inside in let l = (sound_lent_is s fits_sound).frames in omega arith
 
   -- a frame that backs the page has its bytes
-  frame_fits : (fr : ℕ) → frame_by (backing m p slot page) ≡ At fr → fr * 4096 + 4096 ≤ length f
+  frame_fits : (fr : ℕ) → frame_by (backing m p slot page) ≡ Some fr → fr * 4096 + 4096 ≤ length f
   frame_fits fr e = let k = source_of m p slot page fr e in let low = go k.base k.backs in let l = (sound_lent_is s fits_sound).frames in omega arith
     where
       go : (base : ℕ) → owing.Backs m (row_of p slot) page base fr → fr < m.frame_count
@@ -104,9 +102,9 @@ module _ (w f b : List ℕ) (p slot page : ℕ) (fits : FaultFits w f b p slot p
   unfolding way_refusals
   fits_copy fr k = (own_fits k.1.0 (room (translate (mapped_of m p) page) refl k.1.1.0) k.1.1.1.0, (next_fits k.1.0, frame_fits fr.0 k.0.1))
     where
-      room : (x : Translated) → translate (mapped_of m p) page ≡ x → (not (is_mapped x) && no_room m p) ≡ false → length (unmap_page (mapped_of m p) page) < 128
-      room (Mapped x) q z = let a = length_unmapped page (mapped_of m p) x q in let c = few_pages nothing m o p fits_process in omega arith
-      room NotMapped q z = let a = length_unmap page (mapped_of m p) in let c = mapped_length m p in let d = leb-false 128 (process_at m p).mapped z in omega arith
+      room : (x : Option Mapping) → translate (mapped_of m p) page ≡ x → (not (is_mapped x) && no_room m p) ≡ false → length (unmap_page (mapped_of m p) page) < 128
+      room (Some x) q z = let a = length_unmapped page (mapped_of m p) x q in let c = few_pages nothing m o p fits_process in omega arith
+      room None q z = let a = length_unmap page (mapped_of m p) in let c = mapped_length m p in let d = leb-false 128 (process_at m p).mapped z in omega arith
 
   fits_fill : Asks m p slot page Fill → OwnFits w p slot page × (NextFits m (length f) × FreshFits m (length b) p slot page)
   unfolding way_refusals

@@ -1,11 +1,8 @@
 -- Laws: a fault, its way refused or gone, and the call at an address.
-use Rattle.std.specs.Prelude.{◌≡◌, Bool, true, List, ℕ, ◌/◌}
+use Rattle.std.specs.Prelude.{◌≡◌, Bool, true, List, ℕ, ◌/◌, Some, Result, Ok, Err, ⊤}
 use Rattle.std.proofs.Math.Path.{ap, sym}
 use Rattle.std.proofs.Common.{subst, ◌∙◌, eqb-true}
 use Rattle.answers.specs.declared.Refusal.{Refusal}
-use Rattle.model.specs.declared.Done.{Done}
-use Rattle.model.specs.declared.Done.TheVariants.{Yes, No}
-use Rattle.model.specs.declared.Found.TheVariants.{At}
 use Rattle.model.specs.declared.Way.{Way}
 use Rattle.model.specs.Layout.{machine}
 use Rattle.model.specs.Machine.{Machine, State, process_at, region_at, order_of}
@@ -26,31 +23,31 @@ use Rattle.keeping.specs.OwingLaws.{open_low}
 use Rattle.keeping.specs.FaultKept.{page_inside}
 use Rattle.fault.specs.Goes.{FaultFits, Goes}
 
-module _ (w f b : List ℕ) (p slot page : ℕ) (write : Bool) (way : Way) (is : way ≡ fault_way (machine w) p slot page write) (d : Done) (told : d ≡ first_of (way_refusals (machine w) p slot page way)) where
+module _ (w f b : List ℕ) (p slot page : ℕ) (write : Bool) (way : Way) (is : way ≡ fault_way (machine w) p slot page write) (d : Result ⊤ Refusal) (told : d ≡ first_of (way_refusals (machine w) p slot page way)) where
   abbrev m : Machine
   m = machine w
 
   decides : d ≡ first_of (way_refusals m p slot page (fault_way m p slot page write))
   decides = told ∙ ap (λ (x : Way). first_of (way_refusals m p slot page x)) is
 
-  pub goes : d ≡ Yes → Goes m p slot page way
+  pub goes : d ≡ Ok tt → Goes m p slot page way
   goes e = record { write = write; picked = is; passes = sym told ∙ e }
 
-  pub handled_no : (r : Refusal) → d ≡ No r → DoesWith (λ s. handle_fault s p slot page write) w f b w f (No r)
+  pub handled_no : (r : Refusal) → d ≡ Err r → DoesWith (λ s. handle_fault s p slot page write) w f b w f (Err r)
   unfolding handle_fault
-  handled_no r e = ap (λ (x : Done). unless x (state_of w f b) (fine (go_way (state_of w f b) p slot page (fault_way m p slot page write)))) (sym decides ∙ e)
+  handled_no r e = ap (λ (x : Result ⊤ Refusal). unless x (state_of w f b) (fine (go_way (state_of w f b) p slot page (fault_way m p slot page write)))) (sym decides ∙ e)
 
-  pub handled_yes : d ≡ Yes → (w' f' : List ℕ) → state_of w' f' b ≡ go_way (state_of w f b) p slot page way → DoesWith (λ s. handle_fault s p slot page write) w f b w' f' Yes
+  pub handled_yes : d ≡ Ok tt → (w' f' : List ℕ) → state_of w' f' b ≡ go_way (state_of w f b) p slot page way → DoesWith (λ s. handle_fault s p slot page write) w f b w' f' (Ok tt)
   unfolding handle_fault
   handled_yes e w' f' k =
-      ap (λ (x : Done). unless x (state_of w f b) (fine (go_way (state_of w f b) p slot page (fault_way m p slot page write)))) (sym decides ∙ e)
-      ∙ ap (λ (x : State). leaving Yes x) (sym (k ∙ ap (λ (x : Way). go_way (state_of w f b) p slot page x) is))
+      ap (λ (x : Result ⊤ Refusal). unless x (state_of w f b) (fine (go_way (state_of w f b) p slot page (fault_way m p slot page write)))) (sym decides ∙ e)
+      ∙ ap (λ (x : State). leaving (Ok tt) x) (sym (k ∙ ap (λ (x : Way). go_way (state_of w f b) p slot page x) is))
 
 -- ---- a region that was found
 
 module _ (w f b : List ℕ) (sound : soundb (state_of w f b) ≡ true) (p slot : ℕ) where
   -- the page of an address of the region that was found there
-  pub found_address : (a : ℕ) → (process_at (machine w) p).opened ≡ 1 → At slot ≡ region_for (machine w) p a → FaultFits w f b p slot (a / 4096)
+  pub found_address : (a : ℕ) → (process_at (machine w) p).opened ≡ 1 → Some slot ≡ region_for (machine w) p a → FaultFits w f b p slot (a / 4096)
   unfolding region_for
   found_address a opened e =
       let k = first_found (λ (t : ℕ). contains (region_at (machine w) p t) a) (order_of (machine w) p) slot (sym e) in
@@ -61,19 +58,19 @@ module _ (w f b : List ℕ) (sound : soundb (state_of w f b) ≡ true) (p slot :
 -- ---- the call
 
 module _ (w f b : List ℕ) (sound : soundb (state_of w f b) ≡ true) (p a : ℕ) (write : Bool) where
-  pub fault_refused : (r : Refusal) → No r ≡ first_of (region_refusals (words_alone w) p a) → DoesWith (λ s. fault s p a write) w f b w f (No r)
+  pub fault_refused : (r : Refusal) → Err r ≡ first_of (region_refusals (words_alone w) p a) → DoesWith (λ s. fault s p a write) w f b w f (Err r)
   unfolding fault region_refusals
-  fault_refused r e = refused (state_of w f b) (λ (q : Refusal). No q) _ _ sound r e
+  fault_refused r e = refused (state_of w f b) (λ (q : Refusal). Err q) _ _ sound r e
 
-  module _ (named : Yes ≡ first_of (region_refusals (words_alone w) p a)) (slot : ℕ) (here : slot ≡ slot_at (words_alone w) p a) (page : ℕ) (paged : page ≡ a / 4096) where
+  module _ (named : Ok tt ≡ first_of (region_refusals (words_alone w) p a)) (slot : ℕ) (here : slot ≡ slot_at (words_alone w) p a) (page : ℕ) (paged : page ≡ a / 4096) where
     pub fault_fits : FaultFits w f b p slot page
     fault_fits =
         let k = region_yes w p a named in
-        subst (λ (i : ℕ). FaultFits w f b p slot i) (sym paged) (found_address w f b sound p slot a (eqb-true _ 1 k.0) (ap (λ (i : ℕ). At i) here ∙ k.1))
+        subst (λ (i : ℕ). FaultFits w f b p slot i) (sym paged) (found_address w f b sound p slot a (eqb-true _ 1 k.0) (ap (λ (i : ℕ). Some i) here ∙ k.1))
 
-    pub fault_done : (w' f' : List ℕ) (d : Done) → DoesWith (λ s. handle_fault s p slot page write) w f b w' f' d → DoesWith (λ s. fault s p a write) w f b w' f' d
+    pub fault_done : (w' f' : List ℕ) (d : Result ⊤ Refusal) → DoesWith (λ s. handle_fault s p slot page write) w f b w' f' d → DoesWith (λ s. fault s p a write) w f b w' f' d
     unfolding fault region_refusals
     fault_done w' f' d k =
-        granted (state_of w f b) (λ (q : Refusal). No q) _ _ sound named
+        granted (state_of w f b) (λ (q : Refusal). Err q) _ _ sound named
         ∙ sym (λ i. handle_fault (state_of w f b) p (here i) (paged i) write)
         ∙ k

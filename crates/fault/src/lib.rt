@@ -14,13 +14,14 @@ ghost use Rattle.fault_own.specs.Owned.{OwnFits, owned};
 ghost use Rattle.fault.specs.Goes.{FaultFits, NextFits, FreshFits, Goes};
 
 use address::{Page, PhysFrame, VirtAddr};
+use answers::Refusal;
 use fault_fill::fill_page;
 use fault_needs::way_refusal;
 use fault_own::own_frame;
 use fault_way::fault_way;
 use frames::copy;
-use lookup::named::{Named, region_named};
-use model::{Done, Mapping, Way};
+use lookup::named::region_named;
+use model::{Mapping, Way};
 use paging::mapper::{map, remap};
 use regions::slot::region_in;
 use rows::backings::pool;
@@ -32,8 +33,7 @@ fn restore(words: &mut [u64], process: usize, slot: usize, page: Page)
     ensures { machine words.new ≡ remap_by (machine words.old) process page.0 (region_at (machine words.old) process slot).flags.0 }
 {
     let region = region_in(&words[..], process, slot);
-    let flags = region.flags;
-    remap(words, process, page, flags);
+    remap(words, process, page, region.flags);
 }
 
 // Gives a page a frame of its own with the bytes of another, of a sound machine.
@@ -106,15 +106,7 @@ fn go_way(
             return;
         }
         Way::Map { frame, flags } => {
-            map(
-                words,
-                process,
-                Mapping {
-                    page: Page(page.0),
-                    frame: frame,
-                    flags: flags,
-                },
-            );
+            map(words, process, Mapping { page, frame, flags });
             return;
         }
         Way::Copy { frame } => {
@@ -137,21 +129,15 @@ pub fn handle_fault(
     slot: usize,
     page: Page,
     write: bool,
-) -> Done
+) -> Result<(), Refusal>
     requires words_len { length words.old ≡ word_count }
     requires fault_fits { FaultFits words.old frames.old files.now process slot page.0 }
     ensures { DoesWith (λ s. handle_fault s process slot page.0 write) words.old frames.old files.now words.new frames.new result }
 {
     let way = fault_way(&words[..], process, slot, page, write);
-    match way_refusal(&words[..], process, slot, page, way) {
-        Done::No(refusal) => {
-            return Done::No(refusal);
-        }
-        Done::Yes => {
-            go_way(words, frames, files, process, slot, page, way);
-            return Done::Yes;
-        }
-    }
+    way_refusal(&words[..], process, slot, page, way)?;
+    go_way(words, frames, files, process, slot, page, way);
+    Ok(())
 }
 
 // A fault at an address: the core of the call, of a sound machine.
@@ -162,18 +148,12 @@ pub fn fault_core(
     process: u64,
     addr: VirtAddr,
     write: bool,
-) -> Done
+) -> Result<(), Refusal>
     requires words_len { length words.old ≡ word_count }
     requires files_value { soundb (state_of words.old frames.old files.now) ≡ true }
     ensures { DoesWith (λ s. fault s process addr.0 write) words.old frames.old files.now words.new frames.new result }
 {
-    match region_named(&words[..], process, addr) {
-        Named::No(refusal) => {
-            return Done::No(refusal);
-        }
-        Named::Slot(slot) => {
-            let page = Page::containing_address(addr);
-            return handle_fault(words, frames, files, process as usize, slot, page, write);
-        }
-    }
+    let slot = region_named(&words[..], process, addr)?;
+    let page = Page::containing_address(addr);
+    handle_fault(words, frames, files, process as usize, slot, page, write)
 }

@@ -20,10 +20,7 @@ pub fn past_start(region: Region, page: Page) -> u64
     ensures { result ≡ past_start region page.0 }
 {
     let start = page.start_address();
-    if start.0 < region.start.0 {
-        return 0;
-    }
-    start.0 - region.start.0
+    start.0.saturating_sub(region.start.0)
 }
 
 // How many bytes of a page come from the region's file.
@@ -31,15 +28,8 @@ pub fn from_file(region: Region, page: Page) -> u64
     requires { page.0 < 2 ^ 52 }
     ensures { result ≡ from_file region page.0 }
 {
-    let past = past_start(region, page);
-    if region.length <= past {
-        return 0;
-    }
-    let rest = region.length - past;
-    if rest < PAGE_SIZE {
-        return rest;
-    }
-    PAGE_SIZE
+    let rest = region.length.saturating_sub(past_start(region, page));
+    rest.min(PAGE_SIZE)
 }
 
 // A region's file; past the last row there is none.
@@ -77,14 +67,8 @@ pub fn read_fails(words: &[u64], region: Region, page: Page) -> bool
 fn in_file(file: File, at: u64, wanted: u64) -> u64
     ensures { result ≡ file_bytes file at wanted }
 {
-    if file.len <= at {
-        return 0;
-    }
-    let rest = file.len - at;
-    if rest < wanted {
-        return rest;
-    }
-    wanted
+    let rest = file.len.saturating_sub(at);
+    wanted.min(rest)
 }
 
 // Fills a frame with what a new page of a region holds.

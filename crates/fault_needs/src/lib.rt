@@ -15,7 +15,7 @@ use address::Page;
 use answers::Refusal;
 use fault_fill::read_fails;
 use lookup::search::{entry_for, free_entry};
-use model::{Done, Found, MAPPED_PAGES, SLOTS, Translated, Way};
+use model::{MAPPED_PAGES, SLOTS, Way};
 use paging::search::translate;
 use regions::slot::region_in;
 use rows::backings::pool;
@@ -38,9 +38,9 @@ fn unmapped_full(words: &[u64], process: usize, page: Page) -> bool
     requires process_bound { process < 8 }
     ensures { result ≡ unmapped_full (machine words.now) process page.0 }
 {
-    let Translated::NotMapped = translate(words, process, page) else {
+    if translate(words, process, page).is_some() {
         return false;
-    };
+    }
     no_room(words, process)
 }
 
@@ -49,10 +49,7 @@ fn no_entry_left(words: &[u64]) -> bool
     requires { length words.now ≡ word_count }
     ensures { result ≡ no_entry_left (machine words.now) }
 {
-    let Found::At(_) = free_entry(words) else {
-        return true;
-    };
-    false
+    free_entry(words).is_none()
 }
 
 // Whether a copied page would need a new entry and none is free.
@@ -62,14 +59,14 @@ fn entry_full(words: &[u64], process: usize, slot: usize, page: Page) -> bool
     requires slot_bound { slot < 64 }
     ensures { result ≡ entry_full (machine words.now) (backing (machine words.now) process slot page.0) }
 {
-    let Found::At(_) = entry_for(words, (process * SLOTS + slot) as u64, page) else {
-        return no_entry_left(words);
-    };
-    false
+    if entry_for(words, (process * SLOTS + slot) as u64, page).is_some() {
+        return false;
+    }
+    no_entry_left(words)
 }
 
 // What a copy needs: a frame, room for the page if it is not mapped, an entry if it has none.
-fn copy_refusal(words: &[u64], process: usize, slot: usize, page: Page) -> Done
+fn copy_refusal(words: &[u64], process: usize, slot: usize, page: Page) -> Result<(), Refusal>
     requires words_len { length words.now ≡ word_count }
     requires sound_words { SoundWords words.now }
     requires process_bound { process < 8 }
@@ -78,19 +75,19 @@ fn copy_refusal(words: &[u64], process: usize, slot: usize, page: Page) -> Done
 {
     let free = pool(words);
     if free.free == 0 {
-        return Done::No(Refusal::OutOfMemory);
+        return Err(Refusal::OutOfMemory);
     }
     if unmapped_full(words, process, page) {
-        return Done::No(Refusal::MapFailed);
+        return Err(Refusal::MapFailed);
     }
     if entry_full(words, process, slot, page) {
-        return Done::No(Refusal::TableFull);
+        return Err(Refusal::TableFull);
     }
-    Done::Yes
+    Ok(())
 }
 
 // What a new page needs: a frame, a file that can be read, room for the page, an entry.
-fn fill_refusal(words: &[u64], process: usize, slot: usize, page: Page) -> Done
+fn fill_refusal(words: &[u64], process: usize, slot: usize, page: Page) -> Result<(), Refusal>
     requires words_len { length words.now ≡ word_count }
     requires process_bound { process < 8 }
     requires page_bound { page.0 < 2 ^ 52 }
@@ -98,22 +95,28 @@ fn fill_refusal(words: &[u64], process: usize, slot: usize, page: Page) -> Done
 {
     let free = pool(words);
     if free.free == 0 {
-        return Done::No(Refusal::OutOfMemory);
+        return Err(Refusal::OutOfMemory);
     }
     if read_fails(words, region_in(words, process, slot), page) {
-        return Done::No(Refusal::ReadFailed);
+        return Err(Refusal::ReadFailed);
     }
     if no_room(words, process) {
-        return Done::No(Refusal::MapFailed);
+        return Err(Refusal::MapFailed);
     }
     if no_entry_left(words) {
-        return Done::No(Refusal::TableFull);
+        return Err(Refusal::TableFull);
     }
-    Done::Yes
+    Ok(())
 }
 
 // The refusals of a way, of a sound machine.
-pub fn way_refusal(words: &[u64], process: usize, slot: usize, page: Page, way: Way) -> Done
+pub fn way_refusal(
+    words: &[u64],
+    process: usize,
+    slot: usize,
+    page: Page,
+    way: Way,
+) -> Result<(), Refusal>
     requires words_len { length words.now ≡ word_count }
     requires sound_words { SoundWords words.now }
     requires process_bound { process < 8 }
@@ -122,26 +125,16 @@ pub fn way_refusal(words: &[u64], process: usize, slot: usize, page: Page, way: 
     ensures { result ≡ first_of (way_refusals (machine words.now) process slot page.0 way) }
 {
     match way {
-        Way::Refuse(refusal) => {
-            return Done::No(refusal);
-        }
-        Way::Already => {
-            return Done::Yes;
-        }
-        Way::Restore => {
-            return Done::Yes;
-        }
-        Way::Map { frame: _, flags: _ } => {
+        Way::Refuse(refusal) => Err(refusal),
+        Way::Already => Ok(()),
+        Way::Restore => Ok(()),
+        Way::Map { .. } => {
             if no_room(words, process) {
-                return Done::No(Refusal::MapFailed);
+                return Err(Refusal::MapFailed);
             }
-            return Done::Yes;
+            Ok(())
         }
-        Way::Copy { frame: _ } => {
-            return copy_refusal(words, process, slot, page);
-        }
-        Way::Fill => {
-            return fill_refusal(words, process, slot, page);
-        }
+        Way::Copy { .. } => copy_refusal(words, process, slot, page),
+        Way::Fill => fill_refusal(words, process, slot, page),
     }
 }

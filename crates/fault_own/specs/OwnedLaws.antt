@@ -1,5 +1,5 @@
 -- A page's own frame on a sound machine: what the code leaves is what the model says.
-use Rattle.std.specs.Prelude.{◌≡◌, ◌≢◌, Bool, ◌&&◌, cond, List, [], ◌∷◌, ℕ, ◌+◌, ◌-◌, ◌<◌, length, get_or, set, eqb, ltb, leb}
+use Rattle.std.specs.Prelude.{◌≡◌, ◌≢◌, Bool, ◌&&◌, cond, List, [], ◌∷◌, ℕ, ◌+◌, ◌-◌, ◌<◌, length, get_or, set, eqb, ltb, leb, Option, Some, None}
 use Rattle.std.proofs.Math.Path.{refl, ap}
 use Rattle.std.proofs.Common.{sym, subst, ◌∙◌, get_or-set_same, get_or-set_other}
 use Rattle.std.proofs.Math.Bool.{true, false, not}
@@ -13,9 +13,6 @@ use Rattle.model.specs.declared.Pool.{Pool}
 use Rattle.model.specs.declared.Backing.{Backing}
 use Rattle.model.specs.declared.Backed.{Backed}
 use Rattle.model.specs.declared.Backed.TheVariants.{ByRange, Unbacked}
-use Rattle.model.specs.declared.Found.{Found}
-use Rattle.model.specs.declared.Found.TheVariants.{At, Nothing}
-use Rattle.model.specs.declared.Translated.TheVariants.{NotMapped}
 use Rattle.laws.specs.Lists.{keep}
 use Rattle.model.specs.Layout.{machine}
 use Rattle.model.specs.Machine.{Machine, region_at, row_of, mapped_of, with_mapped, with_entries, no_entry, no_backing}
@@ -50,12 +47,12 @@ use Rattle.fault_own.specs.Entered.{EntryReady, re_entry_by, entry_row}
 use Rattle.fault_own.specs.Owned.{OwnFits, owned}
 
 -- an unmapped page is not mapped
-unmapped_not : (page : ℕ) (l : List Mapping) → translate (unmap_page l page) page ≡ NotMapped
+unmapped_not : (page : ℕ) (l : List Mapping) → translate (unmap_page l page) page ≡ None
 unfolding translate unmap_page keep
 unmapped_not page [] = refl
 unmapped_not page (y ∷ l) = go (eqb y.page.0 page) refl (unmapped_not page l)
   where
-    go : (b : Bool) → eqb y.page.0 page ≡ b → translate (keep (λ x. not (eqb x.page.0 page)) l) page ≡ NotMapped → translate (cond (not b) (y ∷ keep (λ x. not (eqb x.page.0 page)) l) (keep (λ x. not (eqb x.page.0 page)) l)) page ≡ NotMapped
+    go : (b : Bool) → eqb y.page.0 page ≡ b → translate (keep (λ x. not (eqb x.page.0 page)) l) page ≡ None → translate (cond (not b) (y ∷ keep (λ x. not (eqb x.page.0 page)) l) (keep (λ x. not (eqb x.page.0 page)) l)) page ≡ None
     go true e more = more
     go false e more = rw e more
 
@@ -122,7 +119,7 @@ module _ (w : List ℕ) (p slot page : ℕ) (fits : OwnFits w p slot page) where
   mapped_is x e =
       let t = o.sizes.mapped in
       let h = process_low in
-      let none : translate (mapped_of bare p) x.page.0 ≡ NotMapped = ap (λ (l : List Mapping). translate l x.page.0) bare_rows ∙ ap (λ (i : ℕ). translate rest i) e ∙ unmapped_not page (mapped_of m p) in
+      let none : translate (mapped_of bare p) x.page.0 ≡ None = ap (λ (l : List Mapping). translate l x.page.0) bare_rows ∙ ap (λ (i : ℕ). translate rest i) e ∙ unmapped_not page (mapped_of m p) in
       let few : length (mapped_of bare p) < 128 = rw bare_rows fits.room in
       ap (λ (n : Machine). map_by n p x) (unmap_law m p (well_paged (state_of w fits.sound.frames fits.sound.files) p sound h) page)
       ∙ map_law bare p bare_paged x none few
@@ -160,7 +157,7 @@ module _ (w : List ℕ) (p slot page : ℕ) (fits : OwnFits w p slot page) where
     entries_same = refl
 
     -- the entry's frame is one of a backing in use, before the claim and after
-    entry_used : (i : ℕ) → entry_for m (row_of p slot) page ≡ At i → (backing_at m (get_or m.entries i no_entry).frame.0).len ≡ 1
+    entry_used : (i : ℕ) → entry_for m (row_of p slot) page ≡ Some i → (backing_at m (get_or m.entries i no_entry).frame.0).len ≡ 1
     unfolding entry_for
     entry_used i e =
         let found = first_found (entry_of (row_of p slot + 1) page) m.entries i no_entry e in
@@ -175,17 +172,17 @@ module _ (w : List ℕ) (p slot page : ℕ) (fits : OwnFits w p slot page) where
         go (yes q) = let k = o.sizes.backings in let h = next_row in let a = ap (λ (b : Backing). b.len) (get_or-set_same m.backings new (record { len = 1; holders = 1 }) no_backing (omega arith)) in let c = ap (λ (i : ℕ). (get_or (set m.backings new (record { len = 1; holders = 1 })) i no_backing).len) q in omega arith
         go (no q) = let a = ap (λ (b : Backing). b.len) (get_or-set_other m.backings new f (record { len = 1; holders = 1 }) no_backing q) in omega arith
 
-    entry_low : (i : ℕ) → entry_for m (row_of p slot) page ≡ At i → (get_or m.entries i no_entry).frame.0 < 256
+    entry_low : (i : ℕ) → entry_for m (row_of p slot) page ≡ Some i → (get_or m.entries i no_entry).frame.0 < 256
     entry_low i e =
         let one = entry_used i e in
         let low = used_low m (sound_ready sound) (get_or m.entries i no_entry).frame.0 (λ z. omega arith) in
         let few = o.sizes.frame_count in
         omega arith
 
-    ready_by : (f : Found) → entry_for m (row_of p slot) page ≡ f → EntryReady (claim put new 1) f
+    ready_by : (f : Option ℕ) → entry_for m (row_of p slot) page ≡ f → EntryReady (claim put new 1) f
     unfolding claim with_backings with_mapped free_entry
-    ready_by (At i) e = entry_low i e
-    ready_by Nothing e = not_none (is_found (free_entry m)) (left (by_range m (region_at m p slot) page) (through_range m p slot page (sym e)))
+    ready_by (Some i) e = entry_low i e
+    ready_by None e = not_none (is_found (free_entry m)) (left (by_range m (region_at m p slot) page) (through_range m p slot page (sym e)))
       where
         not_none : (b : Bool) → not b ≡ false → b ≡ true
         not_none b h = not-false b h
@@ -198,14 +195,14 @@ module _ (w : List ℕ) (p slot page : ℕ) (fits : OwnFits w p slot page) where
             go false h = h
 
     -- the model's entry
-    went : (f : Found) → entry_for m (row_of p slot) page ≡ f → re_entry_by (claim put new 1) (row_of p slot) page new f ≡ with_mapped (re_entry (claim m new 1) (row_of p slot) page (backing m p slot page) new) p l
+    went : (f : Option ℕ) → entry_for m (row_of p slot) page ≡ f → re_entry_by (claim put new 1) (row_of p slot) page new f ≡ with_mapped (re_entry (claim m new 1) (row_of p slot) page (backing m p slot page) new) p l
     unfolding re_entry claim with_backings with_mapped
-    went (At i) e =
+    went (Some i) e =
         let fr = (get_or m.entries i no_entry).frame.0 in
         ap (λ (n : Machine). with_entries n (set n.entries i (entry_row (row_of p slot) page new))) (release_is (claim put new 1) (claim_ready put put_ready new 1 put_run) fr (still_used fr (entry_used i e)))
         ∙ moved_let_go m p l new fr i (entry_row (row_of p slot) page new)
         ∙ ap (λ (b : Backed). with_mapped (re_entry (claim m new 1) (row_of p slot) page b new) p l) (through_entry m p slot page i (sym e))
-    went Nothing e =
+    went None e =
         moved_add m p l new (row_of p slot) page
         ∙ ap (λ (n : Machine). with_mapped n p l) (sym (range_added (claim m new 1) m (region_at m p slot) (row_of p slot) page new) ∙ ap (λ (b : Backed). re_entry (claim m new 1) (row_of p slot) page b new) (through_range m p slot page (sym e)))
 
@@ -226,12 +223,12 @@ module _ (w : List ℕ) (p slot page : ℕ) (fits : OwnFits w p slot page) where
       is_claimed = claims ∙ (λ i. claimed (is_mapped i) (pooled i).next.0 1) ∙ claimed_is all
 
       pub own_ready : EntryReady v (entry_for v (row_of p slot) page)
-      own_ready = subst (λ (n : Machine). EntryReady n (entry_for n (row_of p slot) page)) (sym is_claimed) (subst (λ (f : Found). EntryReady (claim (with_mapped m p all) new 1) f) (sym (entries_same all)) (ready_by all (entry_for m (row_of p slot) page) refl))
+      own_ready = subst (λ (n : Machine). EntryReady n (entry_for n (row_of p slot) page)) (sym is_claimed) (subst (λ (f : Option ℕ). EntryReady (claim (with_mapped m p all) new 1) f) (sym (entries_same all)) (ready_by all (entry_for m (row_of p slot) page) refl))
 
       pub own_done : (z : Machine) → z ≡ re_entry_by v (row_of p slot) page q.next.0 (entry_for v (row_of p slot) page) → z ≡ owned m p slot page
       unfolding owned
       own_done z enters =
           enters
           ∙ (λ i. re_entry_by (is_claimed i) (row_of p slot) page (pooled i).next.0 (entry_for (is_claimed i) (row_of p slot) page))
-          ∙ ap (λ (f : Found). re_entry_by (claim (with_mapped m p all) new 1) (row_of p slot) page new f) (entries_same all)
+          ∙ ap (λ (f : Option ℕ). re_entry_by (claim (with_mapped m p all) new 1) (row_of p slot) page new f) (entries_same all)
           ∙ went all (entry_for m (row_of p slot) page) refl

@@ -11,9 +11,10 @@ ghost use Rattle.fault_own.specs.Owned.{OwnFits, owned};
 
 use address::{Page, PhysFrame};
 use backing::holders::{claim, release};
-use lookup::search::{entry_for, free_entry};
-use model::{Entry, Found, Mapping, SLOTS};
+use lookup::search::entry_for;
+use model::{Entry, Mapping, SLOTS};
 use paging::mapper::{map, unmap};
+use regions::add::add_entry;
 use regions::slot::region_in;
 use rows::backings::pool;
 use rows::pages::{entry_at, put_entry};
@@ -24,30 +25,8 @@ fn map_anew(words: &mut [u64], process: usize, row: Mapping)
     requires process_bound { process < 8 }
     ensures { machine words.new ≡ map_by (unmap_by (machine words.old) process row.page.0) process row }
 {
-    unmap(words, process, Page(row.page.0));
+    unmap(words, process, row.page);
     map(words, process, row);
-}
-
-// A new page entry for a page of the region in a row, in the lowest free row.
-fn add_entry(words: &mut [u64], row: usize, page: Page, frame: PhysFrame)
-    requires words_len { length words.old ≡ word_count }
-    requires row_bound { row < 512 }
-    requires words_value { is_found (free_entry (machine words.old)) ≡ true }
-    ensures { machine words.new ≡ add_entry (machine words.old) row page.0 frame.0 }
-{
-    let Found::At(i) = free_entry(&words[..]) else {
-        return;
-    };
-    let owner = row as u64 + 1;
-    put_entry(
-        words,
-        i,
-        Entry {
-            owner: owner,
-            page: page,
-            frame: frame,
-        },
-    );
 }
 
 // The page entry of a page of the region in a row gets another frame, and its old backing is let go; where it has none, a new entry.
@@ -57,22 +36,14 @@ fn re_entry(words: &mut [u64], row: usize, page: Page, frame: PhysFrame)
     requires entry_ready { EntryReady (machine words.old) (entry_for (machine words.old) row page.0) }
     ensures { machine words.new ≡ re_entry_by (machine words.old) row page.0 frame.0 (entry_for (machine words.old) row page.0) }
 {
-    let Found::At(i) = entry_for(&words[..], row as u64, page) else {
+    let Some(i) = entry_for(&words[..], row as u64, page) else {
         add_entry(words, row, page, frame);
         return;
     };
     let old = entry_at(&words[..], i);
     release(words, old.frame);
     let owner = row as u64 + 1;
-    put_entry(
-        words,
-        i,
-        Entry {
-            owner: owner,
-            page: page,
-            frame: frame,
-        },
-    );
+    put_entry(words, i, Entry { owner, page, frame });
 }
 
 // Gives a page of the region in a slot the next free frame, mapped with the region's flags, of a sound machine.
@@ -83,17 +54,9 @@ pub fn own_frame(words: &mut [u64], process: usize, slot: usize, page: Page)
 {
     let region = region_in(&words[..], process, slot);
     let free = pool(&words[..]);
-    let flags = region.flags;
     let frame = free.next;
-    map_anew(
-        words,
-        process,
-        Mapping {
-            page: Page(page.0),
-            frame: PhysFrame(frame.0),
-            flags: flags,
-        },
-    );
+    let flags = region.flags;
+    map_anew(words, process, Mapping { page, frame, flags });
     claim(words, frame, 1);
     re_entry(words, process * SLOTS + slot, page, frame);
 }

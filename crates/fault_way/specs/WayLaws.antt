@@ -1,5 +1,6 @@
 -- Laws: the choice of a fault's way, case by case, and what is read of a sound machine.
-use Rattle.std.specs.Prelude.{◌≡◌, List, ℕ, ◌<◌, ◌≤◌}
+use Rattle.std.specs.Prelude.{◌≡◌, List, ℕ, ◌<◌, ◌≤◌, Option, Some, None, is_some}
+use Rattle.std.proofs.lemmas.Bool.{false≢true}
 use Rattle.std.proofs.Math.Path.{refl, ap, sym}
 use Rattle.std.proofs.Common.{◌∙◌, arith}
 use mathlib.Core.Bool.{Bool, true, false, not, ◌&&◌, ◌||◌, cond}
@@ -11,8 +12,6 @@ use Rattle.address.specs.Flags.{read_only}
 use Rattle.answers.specs.declared.Refusal.TheVariants.{NotAccessible, NotWritable, MapFailed}
 use Rattle.model.specs.declared.Region.{Region}
 use Rattle.model.specs.declared.Mapping.{Mapping}
-use Rattle.model.specs.declared.Translated.{Translated}
-use Rattle.model.specs.declared.Translated.TheVariants.{Mapped, NotMapped}
 use Rattle.model.specs.declared.Backed.{Backed}
 use Rattle.model.specs.declared.Backed.TheVariants.{ByEntry, ByRange, Unbacked}
 use Rattle.model.specs.declared.Way.{Way}
@@ -37,8 +36,8 @@ copied_one f n e = rw (eq-eqb n 1 e) refl
 pub copied_more : (f : PhysFrame) (n : ℕ) → (n ≡ 1 → ⊥) → Copy f ≡ copied_way f n
 copied_more f n e = rw (ne_eqb n 1 e) refl
 
-pub well_write : (t : Translated) (x : Mapping) → t ≡ Mapped x → (w : Bool) → not w ≡ false → (b : Bool) → b ≡ is_writable x.flags.0 → b ≡ well_mapped t w
-well_write t x e true a b f = f ∙ ap (λ (y : Translated). well_mapped y true) (sym e)
+pub well_write : (t : Option Mapping) (x : Mapping) → t ≡ Some x → (w : Bool) → not w ≡ false → (b : Bool) → b ≡ is_writable x.flags.0 → b ≡ well_mapped t w
+well_write t x e true a b f = f ∙ ap (λ (y : Option Mapping). well_mapped y true) (sym e)
 well_write t x e false a b f = absurd (mathlib.Core.Bool.true≢false a)
 
 module _ (r : Region) (x : Bool) (e : x ≡ is_writable r.flags.0) where
@@ -101,7 +100,16 @@ module _ (r : Region) (b : Backed) (w : Bool) where
   pub unmapped_bare : b ≡ Unbacked → (y : Way) → y ≡ unbacked_way r w → y ≡ unmapped_way r b w
   unmapped_bare g y k = k ∙ sym (ap (λ (z : Backed). unmapped_way r z w) g)
 
-module _ (r : Region) (t : Translated) (b : Backed) (w x : Bool) (e : x ≡ is_user r.flags.0) where
+-- what the test of an option tells
+pub told_none : {T : Type 0} (o : Option T) → is_some o ≡ false → o ≡ None
+told_none None t = refl
+told_none (Some x) t = absurd (false≢true (sym t))
+
+pub told_some : {T : Type 0} (o : Option T) → is_some o ≡ true → (x : T) × (o ≡ Some x)
+told_some None t = absurd (false≢true t)
+told_some (Some x) t = (x, refl)
+
+module _ (r : Region) (t : Option Mapping) (b : Backed) (w x : Bool) (e : x ≡ is_user r.flags.0) where
   pub private_refused : not x ≡ true → Refuse NotAccessible ≡ private_way r t b w
   unfolding private_way
   private_refused a = rw (sym e ∙ not-true x a) refl
@@ -110,18 +118,18 @@ module _ (r : Region) (t : Translated) (b : Backed) (w x : Bool) (e : x ≡ is_u
   unfolding private_way
   private_open a y k = k ∙ rw (sym e ∙ not-false x a) refl
 
-  pub private_unmapped : not x ≡ false → t ≡ NotMapped → (y : Way) → y ≡ unmapped_way r b w → y ≡ private_way r t b w
-  private_unmapped a g y k = private_open a y (k ∙ sym (ap (λ (z : Translated). translated_way r z b w) g))
+  pub private_unmapped : not x ≡ false → t ≡ None → (y : Way) → y ≡ unmapped_way r b w → y ≡ private_way r t b w
+  private_unmapped a g y k = private_open a y (k ∙ sym (ap (λ (z : Option Mapping). translated_way r z b w) g))
 
-  pub private_well : not x ≡ false → (m : Mapping) → t ≡ Mapped m → (c : Bool) → c ≡ well_mapped t w → c ≡ true → Already ≡ private_way r t b w
-  private_well a m g c h k = private_open a Already (sym (ap (λ (z : Translated). translated_way r z b w) g ∙ rw (ap (λ (z : Translated). well_mapped z w) (sym g) ∙ sym h ∙ k) refl))
+  pub private_well : not x ≡ false → (m : Mapping) → t ≡ Some m → (c : Bool) → c ≡ well_mapped t w → c ≡ true → Already ≡ private_way r t b w
+  private_well a m g c h k = private_open a Already (sym (ap (λ (z : Option Mapping). translated_way r z b w) g ∙ rw (ap (λ (z : Option Mapping). well_mapped z w) (sym g) ∙ sym h ∙ k) refl))
 
-  pub private_mapped : not x ≡ false → (m : Mapping) → t ≡ Mapped m → (c : Bool) → c ≡ well_mapped t w → c ≡ false → (y : Way) → y ≡ mapped_way r b → y ≡ private_way r t b w
-  private_mapped a m g c h k y z = private_open a y (z ∙ sym (ap (λ (z : Translated). translated_way r z b w) g ∙ rw (ap (λ (z : Translated). well_mapped z w) (sym g) ∙ sym h ∙ k) refl))
+  pub private_mapped : not x ≡ false → (m : Mapping) → t ≡ Some m → (c : Bool) → c ≡ well_mapped t w → c ≡ false → (y : Way) → y ≡ mapped_way r b → y ≡ private_way r t b w
+  private_mapped a m g c h k y z = private_open a y (z ∙ sym (ap (λ (z : Option Mapping). translated_way r z b w) g ∙ rw (ap (λ (z : Option Mapping). well_mapped z w) (sym g) ∙ sym h ∙ k) refl))
 
 -- ---- whether the way hangs on what backs the page
 
-module _ (r : Region) (t : Translated) (w : Bool) where
+module _ (r : Region) (t : Option Mapping) (w : Bool) where
   pub asks_refused : (u : Bool) → u ≡ is_user r.flags.0 → not u ≡ true → false ≡ asks_backing r t w
   asks_refused u e a = rw (sym e ∙ not-true u a) refl
 
@@ -157,38 +165,38 @@ module _ (r : Region) (t : Translated) (w : Bool) where
       over false false f true z = mapped false f refl Unbacked ∙ sym (mapped false f refl b)
       over false false f false z = absurd (mathlib.Core.Bool.true≢false z)
 
-      go : (u v : Bool) → is_writable r.flags.0 ≡ v → (y : Bool) → w ≡ y → (x : Translated) → t ≡ x → (u && (not (well_mapped x y) && (not y || v))) ≡ false
+      go : (u v : Bool) → is_writable r.flags.0 ≡ v → (y : Bool) → w ≡ y → (x : Option Mapping) → t ≡ x → (u && (not (well_mapped x y) && (not y || v))) ≡ false
           → cond u (translated_way r x Unbacked y) (Refuse NotAccessible) ≡ cond u (translated_way r x b y) (Refuse NotAccessible)
       go false v f y g x h z = refl
-      go true v f y g (Mapped x) h z = over (well_mapped (Mapped x) y) v f y z
-      go true true f true g NotMapped h z = absurd (mathlib.Core.Bool.true≢false z)
-      go true true f false g NotMapped h z = absurd (mathlib.Core.Bool.true≢false z)
-      go true false f true g NotMapped h z = bare false f refl Unbacked ∙ sym (bare false f refl b)
-      go true false f false g NotMapped h z = absurd (mathlib.Core.Bool.true≢false z)
+      go true v f y g (Some x) h z = over (well_mapped (Some x) y) v f y z
+      go true true f true g None h z = absurd (mathlib.Core.Bool.true≢false z)
+      go true true f false g None h z = absurd (mathlib.Core.Bool.true≢false z)
+      go true false f true g None h z = bare false f refl Unbacked ∙ sym (bare false f refl b)
+      go true false f false g None h z = absurd (mathlib.Core.Bool.true≢false z)
 
-module _ (t : Translated) (b : Backed) where
-  pub shared_mapped : (m : Mapping) → t ≡ Mapped m → Already ≡ shared_way t b
+module _ (t : Option Mapping) (b : Backed) where
+  pub shared_mapped : (m : Mapping) → t ≡ Some m → Already ≡ shared_way t b
   unfolding shared_way
-  shared_mapped m g = sym (ap (λ (z : Translated). shared_way z b) g)
+  shared_mapped m g = sym (ap (λ (z : Option Mapping). shared_way z b) g)
 
-  pub shared_entry : t ≡ NotMapped → (i : ℕ) (f : PhysFrame) (n : ℕ) → b ≡ ByEntry i f n → Map f (record { 0 = all_four }) ≡ shared_way t b
+  pub shared_entry : t ≡ None → (i : ℕ) (f : PhysFrame) (n : ℕ) → b ≡ ByEntry i f n → Map f (record { 0 = all_four }) ≡ shared_way t b
   unfolding shared_way
-  shared_entry g i f n h = sym (ap (λ (z : Translated). shared_way z b) g ∙ ap (λ (z : Backed). shared_way NotMapped z) h)
+  shared_entry g i f n h = sym (ap (λ (z : Option Mapping). shared_way z b) g ∙ ap (λ (z : Backed). shared_way None z) h)
 
-  pub shared_range : t ≡ NotMapped → (f : PhysFrame) (n : ℕ) → b ≡ ByRange f n → Map f (record { 0 = all_four }) ≡ shared_way t b
+  pub shared_range : t ≡ None → (f : PhysFrame) (n : ℕ) → b ≡ ByRange f n → Map f (record { 0 = all_four }) ≡ shared_way t b
   unfolding shared_way
-  shared_range g f n h = sym (ap (λ (z : Translated). shared_way z b) g ∙ ap (λ (z : Backed). shared_way NotMapped z) h)
+  shared_range g f n h = sym (ap (λ (z : Option Mapping). shared_way z b) g ∙ ap (λ (z : Backed). shared_way None z) h)
 
-  pub shared_unbacked : t ≡ NotMapped → b ≡ Unbacked → Refuse MapFailed ≡ shared_way t b
+  pub shared_unbacked : t ≡ None → b ≡ Unbacked → Refuse MapFailed ≡ shared_way t b
   unfolding shared_way
-  shared_unbacked g h = sym (ap (λ (z : Translated). shared_way z b) g ∙ ap (λ (z : Backed). shared_way NotMapped z) h)
+  shared_unbacked g h = sym (ap (λ (z : Option Mapping). shared_way z b) g ∙ ap (λ (z : Backed). shared_way None z) h)
 
 -- what is read of a sound machine
 module _ (w : List ℕ) (s : SoundWords w) where
   pub words_sound : Sound (state_of w s.frames s.files)
   words_sound = (sound_tells (state_of w s.frames s.files)).yes s.sound
 
-  pub words_translate : (p : ℕ) → p < 8 → (page : ℕ) (t : Translated) → t ≡ translate_by (mapped_of (machine w) p) page → t ≡ translate (mapped_of (machine w) p) page
+  pub words_translate : (p : ℕ) → p < 8 → (page : ℕ) (t : Option Mapping) → t ≡ translate_by (mapped_of (machine w) p) page → t ≡ translate (mapped_of (machine w) p) page
   words_translate p h page t e = e ∙ translate_law (machine w) p (well_paged (state_of w s.frames s.files) p words_sound h) page
 
   -- no backing has more than 256 frames
@@ -199,7 +207,7 @@ module _ (w : List ℕ) (s : SoundWords w) where
       go (yes z) = omega arith
       go (no z) = let ready = sound_ready words_sound in let inside = used_inside (machine w) ready f z in let few = ready.few in omega arith
 
-module _ (m : Machine) (p t page : ℕ) (w : Bool) (r : Region) (row : r ≡ region_at m p t) (x : Translated) (mapped : x ≡ translate (mapped_of m p) page) (b : Backed) (backs : b ≡ backing m p t page) where
+module _ (m : Machine) (p t page : ℕ) (w : Bool) (r : Region) (row : r ≡ region_at m p t) (x : Option Mapping) (mapped : x ≡ translate (mapped_of m p) page) (b : Backed) (backs : b ≡ backing m p t page) where
   all_read : (y : Way) → y ≡ cond (is_shared r) (shared_way x b) (private_way r x b w) → y ≡ fault_way m p t page w
   unfolding fault_way
   all_read y k = k ∙ (λ i. cond (is_shared (row i)) (shared_way (mapped i) (backs i)) (private_way (row i) (mapped i) (backs i) w))

@@ -11,15 +11,15 @@ ghost use Rattle.rows.specs.LentMemory.{SoundWords};
 use address::{Page, PageTableFlags, PhysFrame};
 use answers::Refusal;
 use lookup::backed::backing_of;
-use model::{Backed, Region, SHARED, Translated, Way};
+use model::{Backed, Mapping, Region, SHARED, Way};
 use paging::search::translate;
 use regions::slot::region_in;
 
 // Whether a page is mapped well enough: for a write it must be writable.
-pub fn well_mapped(page: Translated, write: bool) -> bool
+pub fn well_mapped(page: Option<Mapping>, write: bool) -> bool
     ensures { result ≡ well_mapped page write }
 {
-    let Translated::Mapped(row) = page else {
+    let Some(row) = page else {
         return false;
     };
     if !write {
@@ -37,22 +37,16 @@ fn backed_way(region: Region, frame: PhysFrame, count: u64, write: bool) -> Way
         if write {
             return Way::Refuse(Refusal::NotWritable);
         }
-        return Way::Map {
-            frame: frame,
-            flags: flags,
-        };
+        return Way::Map { frame, flags };
     }
     if count == 1 {
-        return Way::Map {
-            frame: frame,
-            flags: flags,
-        };
+        return Way::Map { frame, flags };
     }
     if write {
-        return Way::Copy { frame: frame };
+        return Way::Copy { frame };
     }
     Way::Map {
-        frame: frame,
+        frame,
         flags: flags.read_only(),
     }
 }
@@ -64,7 +58,7 @@ fn copied_way(frame: PhysFrame, count: u64) -> Way
     if count == 1 {
         return Way::Restore;
     }
-    Way::Copy { frame: frame }
+    Way::Copy { frame }
 }
 
 // A write to a page that is mapped and not writable.
@@ -75,11 +69,7 @@ fn mapped_way(region: Region, backed: Backed) -> Way
         return Way::Refuse(Refusal::NotWritable);
     }
     match backed {
-        Backed::ByEntry {
-            row: _,
-            frame,
-            count,
-        } => copied_way(frame, count),
+        Backed::ByEntry { frame, count, .. } => copied_way(frame, count),
         Backed::ByRange { frame, count } => copied_way(frame, count),
         Backed::Unbacked => Way::Refuse(Refusal::MapFailed),
     }
@@ -103,26 +93,22 @@ fn unmapped_way(region: Region, backed: Backed, write: bool) -> Way
     ensures { result ≡ unmapped_way region backed write }
 {
     match backed {
-        Backed::ByEntry {
-            row: _,
-            frame,
-            count,
-        } => backed_way(region, frame, count, write),
+        Backed::ByEntry { frame, count, .. } => backed_way(region, frame, count, write),
         Backed::ByRange { frame, count } => backed_way(region, frame, count, write),
         Backed::Unbacked => unbacked_way(region, write),
     }
 }
 
 // A page of a Private or FileBacked region.
-fn private_way(region: Region, page: Translated, backed: Backed, write: bool) -> Way
+fn private_way(region: Region, page: Option<Mapping>, backed: Backed, write: bool) -> Way
     ensures { result ≡ private_way region page backed write }
 {
     if !region.flags.is_user_accessible() {
         return Way::Refuse(Refusal::NotAccessible);
     }
-    let Translated::Mapped(_) = page else {
+    if page.is_none() {
         return unmapped_way(region, backed, write);
-    };
+    }
     if well_mapped(page, write) {
         return Way::Already;
     }
@@ -131,7 +117,7 @@ fn private_way(region: Region, page: Translated, backed: Backed, write: bool) ->
 
 // Whether the way hangs on what backs the page, which takes a look through all entries: not where the region refuses, nor where
 // the page is mapped well enough.
-fn asks_backing(region: Region, page: Translated, write: bool) -> bool
+fn asks_backing(region: Region, page: Option<Mapping>, write: bool) -> bool
     ensures { result ≡ asks_backing region page write }
 {
     if !region.flags.is_user_accessible() {
@@ -147,27 +133,17 @@ fn asks_backing(region: Region, page: Translated, write: bool) -> bool
 }
 
 // A page of a Shared region.
-fn shared_way(page: Translated, backed: Backed) -> Way
+fn shared_way(page: Option<Mapping>, backed: Backed) -> Way
     ensures { result ≡ shared_way page backed }
 {
-    let Translated::NotMapped = page else {
+    if page.is_some() {
         return Way::Already;
-    };
+    }
     // all four flags
     let all = PageTableFlags(0x8000_0000_0000_0007);
     match backed {
-        Backed::ByEntry {
-            row: _,
-            frame,
-            count: _,
-        } => Way::Map {
-            frame: frame,
-            flags: all,
-        },
-        Backed::ByRange { frame, count: _ } => Way::Map {
-            frame: frame,
-            flags: all,
-        },
+        Backed::ByEntry { frame, .. } => Way::Map { frame, flags: all },
+        Backed::ByRange { frame, .. } => Way::Map { frame, flags: all },
         Backed::Unbacked => Way::Refuse(Refusal::MapFailed),
     }
 }

@@ -1,12 +1,12 @@
 -- What bytes put at a frame's place come to: the model's definitions of frames zeroed, copied and filled.
-use Rattle.std.specs.Prelude.{◌≡◌, refl, Bool, true, false, List, [], ◌∷◌, ◌++◌, ℕ, zero, suc, ◌+◌, ◌-◌, ◌*◌, ◌≤◌, length, take, drop, replicate, leb}
-use Rattle.std.proofs.Common.{sym, ap, ◌∙◌, inl, inr, le_of_suc-le-suc, add-zero, arith, take-append-drop, leb-true, leb-false}
+use Rattle.std.specs.Prelude.{◌≡◌, refl, List, [], ◌∷◌, ◌++◌, ℕ, zero, suc, ◌+◌, ◌-◌, ◌*◌, ◌≤◌, length, take, drop, replicate}
+use Rattle.std.proofs.Common.{sym, ap, ◌∙◌, le_of_suc-le-suc, arith}
 use Rattle.std.proofs.Math.Numerals.{unary_clauses}
 use Rattle.std.proofs.lemmas.List.{length-replicate, replicate-append-replicate}
 use Rattle.laws.specs.Lists.{pad, each, up_from}
 use Rattle.model.specs.Backing.{frame_bytes, put_frame, zero_frames}
-use Rattle.frames.specs.PutBytes.{put_at, Keeps}
-use Rattle.frames.specs.PutBytesLaws.{put_put, length_put_at, length_part}
+use Rattle.frames.specs.PutBytes.{put_at}
+use Rattle.frames.specs.PutBytesLaws.{no_bytes, put_put, length_put_at, length_part}
 
 -- a frame's worth of bytes, put at its place
 pub put_frame_is : (l : List ℕ) (f : ℕ) (new : List ℕ) → length new ≡ 4096 → put_at l (f * 4096) new ≡ put_frame l f new
@@ -16,11 +16,7 @@ put_frame_is l f new e = rw e
 abbrev zeros : ℕ → List ℕ
 zeros n = replicate n 0
 
--- zeros put: nothing where they are none, the length stays, and zeros behind zeros are zeros
-no_zeros : (l : List ℕ) (at : ℕ) → put_at l at [] ≡ l
-unfolding put_at
-no_zeros l at = rw add-zero (take-append-drop at l)
-
+-- zeros put: the length stays, and zeros behind zeros are zeros
 module _ (l : List ℕ) (at m : ℕ) (room : at + m ≤ length l) where
   fits : at + length (zeros m) ≤ length l
   fits = rw length-replicate room
@@ -37,7 +33,7 @@ module _ (l : List ℕ) (at m : ℕ) (room : at + m ≤ length l) where
 -- a run of zeros is each frame of it zeroed
 pub zero_run : (n f : ℕ) (l : List ℕ) → f * 4096 + n * 4096 ≤ length l → put_at l (f * 4096) (replicate (n * 4096) 0) ≡ zero_frames f n l
 unfolding zero_frames each up_from
-zero_run zero f l h = no_zeros l (f * 4096)
+zero_run zero f l h = sym (no_bytes l (f * 4096))
 zero_run (suc n) f l h =
     let room : f * 4096 + 4096 ≤ length l = omega arith in
     let zeroed : List ℕ = put_frame l f (zeros 4096) in
@@ -51,14 +47,6 @@ zero_run (suc n) f l h =
     ∙ ap (λ (t : List ℕ). put_at t (f * 4096 + 4096) (zeros (n * 4096))) one
     ∙ ap (λ (k : ℕ). put_at zeroed k (zeros (n * 4096))) next
     ∙ zero_run n (f + 1) zeroed rest
-
--- two frames are the same or apart
-pub frames_apart : (from to i j : ℕ) → i ≡ from * 4096 → j ≡ to * 4096 → Keeps i j 4096
-frames_apart from to i j here there = go (leb to from) refl
-  where
-    go : (b : Bool) → leb to from ≡ b → Keeps i j 4096
-    go true e = let h = leb-true to from e in inl (omega arith)
-    go false e = let h = leb-false to from e in inr (omega arith)
 
 -- the places i and j of two frames
 pub copy_is : (l m : List ℕ) (from to i j : ℕ) → i ≡ from * 4096 → j ≡ to * 4096 → from * 4096 + 4096 ≤ length l → m ≡ put_at l j (take 4096 (drop i l)) → m ≡ put_frame l to (frame_bytes l from)

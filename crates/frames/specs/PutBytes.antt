@@ -1,10 +1,6 @@
 -- Bytes put into a list from a place on: the one way in which frames' bytes change.
-use Rattle.std.specs.Prelude.{◌⊎◌, List, ◌++◌, ℕ, ◌+◌, ◌≤◌, length, take, drop}
+use Rattle.std.specs.Prelude.{List, ◌++◌, ℕ, ◌+◌, length, take, drop}
 
 -- the list with the bytes from `at` on replaced by new ones
 unfoldable pub put_at : List ℕ → ℕ → List ℕ → List ℕ
 put_at l at new = take at l ++ (new ++ drop (at + length new) l)
-
--- bytes put in rising order within a list: none is overwritten before it is read, since they go down, or to a place behind them
-abbrev pub Keeps : (start at count : ℕ) → Type 0
-Keeps start at count = (at ≤ start) ⊎ (start + count ≤ at)

@@ -1,11 +1,12 @@
--- Laws of bytes put from a place on: one after the other in a loop, one run after another, and the length.
-use Rattle.std.specs.Prelude.{◌≡◌, refl, List, ◌++◌, ℕ, ◌+◌, ◌-◌, ◌≤◌, ◌<◌, get_or, set, take, drop}
-use Rattle.std.proofs.Common.{sym, ap, ◌∙◌, inl, inr, append_assoc, zero-le, add_assoc, add-one, length-append, length-set, length-take, length-drop, get_or-take, get_or-drop, take_at, drop_at, drop-drop}
+-- Laws of bytes put from a place on: all at once, one after the other in a loop, one run after another, and the length.
+use Rattle.std.specs.Prelude.{◌≡◌, refl, List, [], ◌++◌, ℕ, zero, suc, ◌+◌, ◌-◌, ◌≤◌, take, drop, ◌<◌, get_or, set}
+use Rattle.std.proofs.Common.{sym, ap, ◌∙◌, append_assoc, add-zero, take-append-drop, add_assoc, length-append, length-take, length-drop, take_at, drop_at, drop-drop, zero-le, add-one, length-set}
 use native.Mathlib.Omega.{arith}
-use Rattle.std.proofs.Math.ListN.{length, get_or-append}
-use Rattle.std.proofs.Math.Seq.{paste, paste-zero, paste-suc, take-length}
-use Rattle.std.proofs.lemmas.List.Edits.{drop-paste}
-use Rattle.frames.specs.PutBytes.{put_at, Keeps}
+use Rattle.std.proofs.Math.ListN.{length}
+use Rattle.std.proofs.Math.Seq.{paste, take-length, paste-zero, paste-suc}
+use borrow.Rule.Slice.PartMut.{put_mid}
+use Rattle.std.proofs.lemmas.Slice.{put_mid-paste}
+use Rattle.frames.specs.PutBytes.{put_at}
 
 -- the list after i of the count new bytes were put: what a loop that puts them keeps
 abbrev pub Puts : List ℕ → ℕ → List ℕ → ℕ → ℕ → List ℕ → Type 0
@@ -27,6 +28,23 @@ module _ (l : List ℕ) (at : ℕ) (new : List ℕ) (count : ℕ) (long : length
       let all : i ≡ length new = omega arith in
       p.2 ∙ rw (all, take-length new) (append_assoc (take at l) new (drop (at + length new) l))
 
+-- all of the bytes put into the part that they are put at
+mid_put : (l : List ℕ) (at k : ℕ) (new : List ℕ) → k ≡ length new → put_mid at k l new ≡ put_at l at new
+unfolding put_at
+mid_put l at k new e = put_mid-paste at k l new new k refl refl e ∙ rw (e, take-length new) (append_assoc (take at l) new (drop (at + length new) l))
+
+pub part_put : (l : List ℕ) (at k count : ℕ) (part new : List ℕ) → k ≡ count → part ≡ new → length new ≡ count → put_mid at k l part ≡ put_at l at new
+part_put l at k count part new e p n = ap (put_mid at k l) p ∙ mid_put l at k new (e ∙ sym n)
+
+pub no_bytes : (l : List ℕ) (at : ℕ) → l ≡ put_at l at []
+unfolding put_at
+no_bytes l at = sym (rw add-zero (take-append-drop at l))
+
+-- of no bytes nothing is put
+pub none_put : (l : List ℕ) (at count : ℕ) (b : List ℕ) → count ≤ 0 → l ≡ put_at l at (take count b)
+none_put l at zero b h = no_bytes l at
+none_put l at (suc n) b h = absurd (omega arith)
+
 pub length_put_at : (l : List ℕ) (at : ℕ) (new : List ℕ) → at + length new ≤ length l → length (put_at l at new) ≡ length l
 unfolding put_at
 length_put_at l at new h = simp (length-append, length-take, length-drop) (omega arith)
@@ -35,41 +53,13 @@ length_put_at l at new h = simp (length-append, length-take, length-drop) (omega
 pub length_part : (l : List ℕ) (start count : ℕ) → count ≤ length l - start → length (take count (drop start l)) ≡ count
 length_part l start count h = simp (length-take, length-drop) (omega arith)
 
-pub part_byte : (l : List ℕ) (start count i : ℕ) → i < count → get_or l (start + i) 0 ≡ get_or (take count (drop start l)) i 0
-part_byte l start count i h = sym (get_or-take count (drop start l) i 0 h ∙ get_or-drop start l i 0)
-
--- a byte before those that were put, or behind them
-paste_before : (l : List ℕ) (at : ℕ) (new : List ℕ) (i j : ℕ) → at ≤ length l → j < at → get_or (paste l at new i) j 0 ≡ get_or l j 0
-paste_before l at new i j room h =
-    let long : j < length (take at l) = simp length-take (omega arith) in
-    let longer : j < length (take at l ++ take i new) = simp length-append (omega arith) in
-    get_or-append (take at l ++ take i new) (drop (at + i) l) 0 j longer
-    ∙ get_or-append (take at l) (take i new) 0 j long
-    ∙ get_or-take at l j 0 h
-
-paste_behind : (l : List ℕ) (at : ℕ) (new : List ℕ) (i j : ℕ) → at ≤ length l → i ≤ length new → at + i ≤ j → get_or (paste l at new i) j 0 ≡ get_or l j 0
-paste_behind l at new i j room short h =
-    let past : at + i + (j - (at + i)) ≡ j = omega arith in
-    ap (λ (k : ℕ). get_or (paste l at new i) k 0) (sym past)
-    ∙ sym (get_or-drop (at + i) (paste l at new i) (j - (at + i)) 0)
-    ∙ ap (λ (t : List ℕ). get_or t (j - (at + i)) 0) (drop-paste l at new i room short)
-    ∙ get_or-drop (at + i) l (j - (at + i)) 0
-    ∙ ap (λ (k : ℕ). get_or l k 0) past
-
--- within one list: the byte that is read next is still the one that was there
-pub within_byte : (l : List ℕ) (start at count i : ℕ) (m : List ℕ) → start + count ≤ length l → at + count ≤ length l → Keeps start at count → i < count → Puts l at (take count (drop start l)) count i m
-    → get_or m (start + i) 0 ≡ get_or (take count (drop start l)) i 0
-within_byte l start at count i m here there keeps more p =
-    ap (λ (t : List ℕ). get_or t (start + i) 0) p.2 ∙ go keeps ∙ part_byte l start count i more
-  where
-    new : List ℕ
-    new = take count (drop start l)
-
-    go : Keeps start at count → get_or (paste l at new i) (start + i) 0 ≡ get_or l (start + i) 0
-    go (inl down) =
-        let long = length_part l start count (omega arith) in
-        paste_behind l at new i (start + i) (omega arith) (omega arith) (omega arith)
-    go (inr up) = paste_before l at new i (start + i) (omega arith) (omega arith)
+-- bytes copied within one list
+pub within_put : (l : List ℕ) (start at count : ℕ) → start + count ≤ length l → paste l at (drop start l) (start + count - start) ≡ put_at l at (take count (drop start l))
+unfolding put_at
+within_put l start at count h =
+    let n : start + count - start ≡ count = omega arith in
+    let long = length_part l start count (omega arith) in
+    rw (n, long) (append_assoc (take at l) (take count (drop start l)) (drop (at + count) l))
 
 -- what is put behind n first bytes leaves these
 behind : (p d b : List ℕ) (n : ℕ) → length p ≡ n → take n (p ++ d) ++ (b ++ drop (n + length b) (p ++ d)) ≡ p ++ (b ++ drop (length b) d)

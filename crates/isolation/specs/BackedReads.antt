@@ -1,24 +1,21 @@
 -- A page that is backed can be read: its read fault succeeds, and the load then answers what is seen.
-use Rattle.std.specs.Prelude.{◌≡◌, refl, Bool, true, false, not, cond, ℕ, ◌+◌, ◌/◌, ◌<◌, ◌^◌, eqb, ltb, leb}
+use Rattle.std.specs.Prelude.{◌≡◌, refl, Bool, true, false, not, cond, ℕ, ◌+◌, ◌/◌, ◌<◌, ◌^◌, eqb, ltb, leb, Option, Some, None, Result, Ok, Err, ⊤}
 use Rattle.std.proofs.Common.{ap, sym, subst, ◌∙◌, inl, inr, arith, eq-eqb, ltb-true, lt-ltb}
 use Rattle.std.proofs.lemmas.Bool.{eqb-false}
+use Rattle.laws.specs.ResultLaws.{none_not_some}
+use Rattle.model.specs.declared.Mapping.{Mapping}
+use Rattle.answers.specs.declared.Refusal.{Refusal}
 use Rattle.address.specs.declared.PhysFrame.{PhysFrame}
 use Rattle.address.specs.Canonical.{user}
 use Rattle.answers.specs.declared.Refusal.TheVariants.{NotAccessible}
 use Rattle.model.specs.declared.Region.{Region}
-use Rattle.model.specs.declared.Found.TheVariants.{At}
-use Rattle.model.specs.declared.Translated.{Translated}
-use Rattle.model.specs.declared.Translated.TheVariants.{Mapped, NotMapped}
 use Rattle.model.specs.declared.Backed.{Backed}
 use Rattle.model.specs.declared.Backed.TheVariants.{ByEntry, ByRange, Unbacked}
 use Rattle.model.specs.declared.Way.{Way}
 use Rattle.model.specs.declared.Way.TheVariants.{Refuse, Already, Restore, Map, Copy, Fill}
-use Rattle.model.specs.declared.Done.{Done}
-use Rattle.model.specs.declared.Done.TheVariants.{Yes, No}
 use Rattle.model.specs.Machine.{Machine, State, process_at, region_at, row_of, order_of, mapped_of}
 use Rattle.model.specs.Answers.{Try, fine, unless}
 use Rattle.model.specs.Lookup.{contains, region_for, is_found, is_open, is_shared, row_found}
-use Rattle.model.specs.LookupLaws.{never_found}
 use Rattle.laws.specs.BoolLaws.{both_true}
 use Rattle.model.specs.Paging.{translate, is_user, is_writable}
 use Rattle.model.specs.Backing.{backing}
@@ -55,24 +52,24 @@ pick x y false f g = g
 backed_serves : (r : Region) (f : PhysFrame) (n : ℕ) → Serves (backed_way r f n false)
 backed_serves r f n = pick _ _ (is_writable r.flags.0) (pick _ _ (eqb n 1) tt tt) tt
 
-private_serves : (r : Region) (t : Translated) (b : Backed) (f : ℕ) → frame_by b ≡ At f → is_user r.flags.0 ≡ true → Serves (private_way r t b false)
+private_serves : (r : Region) (t : Option Mapping) (b : Backed) (f : ℕ) → frame_by b ≡ Some f → is_user r.flags.0 ≡ true → Serves (private_way r t b false)
 unfolding private_way
 private_serves r t b f e u = subst (λ (c : Bool). Serves (cond c (translated_way r t b false) (Refuse NotAccessible))) (sym u) (go t b e)
   where
-    go : (t : Translated) (b : Backed) → frame_by b ≡ At f → Serves (translated_way r t b false)
-    go (Mapped x) b e = tt
-    go NotMapped (ByEntry i g n) e = backed_serves r g n
-    go NotMapped (ByRange g n) e = backed_serves r g n
-    go NotMapped Unbacked e = absurd (never_found e)
+    go : (t : Option Mapping) (b : Backed) → frame_by b ≡ Some f → Serves (translated_way r t b false)
+    go (Some x) b e = tt
+    go None (ByEntry i g n) e = backed_serves r g n
+    go None (ByRange g n) e = backed_serves r g n
+    go None Unbacked e = absurd (none_not_some e)
 
-shared_serves : (t : Translated) (b : Backed) (f : ℕ) → frame_by b ≡ At f → Serves (shared_way t b)
+shared_serves : (t : Option Mapping) (b : Backed) (f : ℕ) → frame_by b ≡ Some f → Serves (shared_way t b)
 unfolding shared_way
-shared_serves (Mapped x) b f e = tt
-shared_serves NotMapped (ByEntry i g n) f e = tt
-shared_serves NotMapped (ByRange g n) f e = tt
-shared_serves NotMapped Unbacked f e = absurd (never_found e)
+shared_serves (Some x) b f e = tt
+shared_serves None (ByEntry i g n) f e = tt
+shared_serves None (ByRange g n) f e = tt
+shared_serves None Unbacked f e = absurd (none_not_some e)
 
-way_serves : (m : Machine) (p s pg f : ℕ) → frame_by (backing m p s pg) ≡ At f → Readable (region_at m p s) → Serves (fault_way m p s pg false)
+way_serves : (m : Machine) (p s pg f : ℕ) → frame_by (backing m p s pg) ≡ Some f → Readable (region_at m p s) → Serves (fault_way m p s pg false)
 unfolding fault_way
 way_serves m p s pg f e readable = go (is_shared (region_at m p s)) refl readable
   where
@@ -92,22 +89,22 @@ way_passes m p s pg Fill k room = absurd k
 
 -- ---- the fault, and the load after it
 
-fault_serves : (s : State) (p t pg f : ℕ) → frame_by (backing s.machine p t pg) ≡ At f → Readable (region_at s.machine p t) → no_room s.machine p ≡ false → (handle_fault s p t pg false).answer ≡ Yes
+fault_serves : (s : State) (p t pg f : ℕ) → frame_by (backing s.machine p t pg) ≡ Some f → Readable (region_at s.machine p t) → no_room s.machine p ≡ false → (handle_fault s p t pg false).answer ≡ Ok tt
 unfolding handle_fault
 fault_serves s p t pg f e readable room =
     let way : Way = fault_way s.machine p t pg false in
     let passes = first_yes (way_refusals s.machine p t pg way) (way_passes s.machine p t pg way (way_serves s.machine p t pg f e readable) room) in
-    ap (λ (d : Done). (unless d s (fine (go_way s p t pg way))).answer) passes
+    ap (λ (d : Result ⊤ Refusal). (unless d s (fine (go_way s p t pg way))).answer) passes
 
-tests_pass : (s : State) (p a slot : ℕ) → not (is_open s.machine p) ≡ false → not (user a) ≡ false → region_for s.machine p a ≡ At slot → Passed (region_refusals s p a)
+tests_pass : (s : State) (p a slot : ℕ) → not (is_open s.machine p) ≡ false → not (user a) ≡ false → region_for s.machine p a ≡ Some slot → Passed (region_refusals s p a)
 unfolding region_refusals
 tests_pass s p a slot opened below here = (opened, (below, (ap (λ x. not (is_found x)) here, tt)))
 
-fault_done : (s : State) → Sound s → (p a : ℕ) → Passed (region_refusals s p a) → (handle_fault s p (slot_at s p a) (a / 4096) false).answer ≡ Yes → (calls.fault s p a false).answer ≡ Yes
+fault_done : (s : State) → Sound s → (p a : ℕ) → Passed (region_refusals s p a) → (handle_fault s p (slot_at s p a) (a / 4096) false).answer ≡ Ok tt → (calls.fault s p a false).answer ≡ Ok tt
 unfolding calls.fault
 fault_done s sound p a tests core =
     let fault : Try = handle_fault s p (slot_at s p a) (a / 4096) false in
-    ap (λ (t : Try). t.answer) (guarded_is s sound No (region_refusals s p a) fault) ∙ ap (λ (d : Done). (calls.decided d No s fault).answer) (first_yes (region_refusals s p a) tests) ∙ core
+    ap (λ (t : Try). t.answer) (guarded_is s sound Err (region_refusals s p a) fault) ∙ ap (λ (d : Result ⊤ Refusal). (calls.decided d Err s fault).answer) (first_yes (region_refusals s p a) tests) ∙ core
 
 pub backed_reads : (s : State) → Sound s → BackedReads s
 backed_reads s sound p a b slot f here readable frame room seen = (done, fault_shows s p a b slot sound home readable seen done)
@@ -118,7 +115,7 @@ backed_reads s sound p a b slot f here readable frame room seen = (done, fault_s
     at : (p < 8) × (In slot (order_of s.machine p) × (contains (region_at s.machine p slot) a ≡ true))
     at = region_home s.machine o p a slot here
 
-    home : home_slot s p a ≡ At slot
+    home : home_slot s p a ≡ Some slot
     home = home_region s.machine o p _ slot at.1.0 (page_inside s.machine o p at.0 slot a at.1.0 at.1.1)
 
     -- an address in a region is a user's
@@ -132,8 +129,8 @@ backed_reads s sound p a b slot f here readable frame room seen = (done, fault_s
     tests : Passed (region_refusals s p a)
     tests = tests_pass s p a slot (ap not (eq-eqb (process_at s.machine p).opened 1 (listed_open nothing s.machine o p slot at.1.0))) (ap not below) here
 
-    core : (handle_fault s p (slot_at s p a) (a / 4096) false).answer ≡ Yes
-    core = subst (λ (t : ℕ). (handle_fault s p t (a / 4096) false).answer ≡ Yes) (sym (ap row_found here)) (fault_serves s p slot (a / 4096) f (ap (frame_in s p (a / 4096)) (sym home) ∙ frame) readable room)
+    core : (handle_fault s p (slot_at s p a) (a / 4096) false).answer ≡ Ok tt
+    core = subst (λ (t : ℕ). (handle_fault s p t (a / 4096) false).answer ≡ Ok tt) (sym (ap row_found here)) (fault_serves s p slot (a / 4096) f (ap (frame_in s p (a / 4096)) (sym home) ∙ frame) readable room)
 
-    done : (calls.fault s p a false).answer ≡ Yes
+    done : (calls.fault s p a false).answer ≡ Ok tt
     done = fault_done s sound p a tests core

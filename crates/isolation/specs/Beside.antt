@@ -1,12 +1,10 @@
 -- A state beside which a region was put in a free row, with entries in free rows: everyone sees what he saw.
-use Rattle.std.specs.Prelude.{◌≡◌, refl, ◌⊎◌, ◌≢◌, true, ℕ, ◌+◌, ◌*◌, ◌/◌, ◌%◌, ◌<◌, get_or}
+use Rattle.std.specs.Prelude.{◌≡◌, refl, ◌⊎◌, ◌≢◌, true, ℕ, ◌+◌, ◌*◌, ◌/◌, ◌%◌, ◌<◌, get_or, Option, Some, None}
 use Rattle.std.proofs.Common.{ap, sym, subst, ◌∙◌, inl, inr, arith}
+use Rattle.laws.specs.ResultLaws.{none_not_some}
 use Rattle.model.specs.declared.Region.{Region}
-use Rattle.model.specs.declared.Found.{Found}
-use Rattle.model.specs.declared.Found.TheVariants.{At, Nothing}
 use Rattle.model.specs.Machine.{Machine, State, region_at, row_of, order_of}
 use Rattle.model.specs.Lookup.{contains}
-use Rattle.model.specs.LookupLaws.{never_found}
 use Rattle.model.specs.Paging.{page_start}
 use Rattle.model.specs.Posix.{home_slot, frame_in, frame_at}
 use Rattle.laws.specs.In.{In}
@@ -44,7 +42,7 @@ left_then k l = record { same = same_then k.same l.same; frame = l.frame ∙ k.f
 -- what is at home stays there, and is left as it was
 pub record Stay (s after : State) (x c v : ℕ) : Type 0 where
   pub left : Left s after x c
-  pub home : home_slot after x c ≡ At v
+  pub home : home_slot after x c ≡ Some v
 
 module _ {d e : ℕ → ℕ} (s after : State) (o : Owing d s.machine) (k : Owing e after.machine) (q u : ℕ) (beside : Beside s after q u) where
   abbrev m : Machine
@@ -53,7 +51,7 @@ module _ {d e : ℕ → ℕ} (s after : State) (o : Owing d s.machine) (k : Owin
   abbrev n : Machine
   n = after.machine
 
-  beside_un : (x c v : ℕ) → home_slot s x c ≡ At v → Undisturbed s after x v (c / 4096) (c % 4096)
+  beside_un : (x c v : ℕ) → home_slot s x c ≡ Some v → Undisturbed s after x v (c / 4096) (c % 4096)
   beside_un x c v e =
       let h = home_at m o x (c / 4096) v e in
       let used = (o.listed x v h.low h.listed).1 in
@@ -79,7 +77,7 @@ module _ {d e : ℕ → ℕ} (s after : State) (o : Owing d s.machine) (k : Owin
       back other i a (inl z) = z
       back other i a (inr z) = let z1 = z.1 in absurd (other (omega arith))
 
-  pub beside_stay : (x c v : ℕ) → home_slot s x c ≡ At v → Stay s after x c v
+  pub beside_stay : (x c v : ℕ) → home_slot s x c ≡ Some v → Stay s after x c v
   beside_stay x c v e =
       let w = beside_un x c v e in
       let h = still_home s after o k x c v e w in
@@ -87,7 +85,7 @@ module _ {d e : ℕ → ℕ} (s after : State) (o : Owing d s.machine) (k : Owin
       record { left = record { same = same_undisturbed s after o k x c v e w; frame = frame }; home = h }
 
   -- a new home in the process itself is the new region
-  pub beside_new : (c v : ℕ) → home_slot s q c ≡ Nothing → home_slot after q c ≡ At v → contains (region_at n q u) (page_start (c / 4096)) ≡ true
+  pub beside_new : (c v : ℕ) → home_slot s q c ≡ None → home_slot after q c ≡ Some v → contains (region_at n q u) (page_start (c / 4096)) ≡ true
   beside_new c v none some = go (beside.own v h.1.0)
     where
       h : (q < 8) × (In v (order_of n q) × (contains (region_at n q v) (page_start (c / 4096)) ≡ true))
@@ -98,25 +96,25 @@ module _ {d e : ℕ → ℕ} (s after : State) (o : Owing d s.machine) (k : Owin
       go (inl i) =
           let used = (o.listed q v h.0 i).1 in
           let row = beside.rows (row_of q v) (λ z. used (ap (λ (j : ℕ). (row_at m j).kind) z ∙ beside.free)) in
-          absurd (never_found (sym none ∙ home_region m o q (page_start (c / 4096)) v i (subst (λ (r : Region). contains r (page_start (c / 4096)) ≡ true) row h.1.1)))
+          absurd (none_not_some (sym none ∙ home_region m o q (page_start (c / 4096)) v i (subst (λ (r : Region). contains r (page_start (c / 4096)) ≡ true) row h.1.1)))
 
   -- another process: what has no home has none still
   pub beside_other : (x c : ℕ) → x ≢ q → Left s after x c
   beside_other x c z = go (home_slot s x c) refl
     where
-      none : home_slot s x c ≡ Nothing → (y : Found) → home_slot after x c ≡ y → home_slot after x c ≡ Nothing
-      none e Nothing f = f
-      none e (At v) f =
+      none : home_slot s x c ≡ None → (y : Option ℕ) → home_slot after x c ≡ y → home_slot after x c ≡ None
+      none e None f = f
+      none e (Some v) f =
           let h = region_home n k x (page_start (c / 4096)) v f in
           let i : In v (order_of m x) = subst (λ l. In v l) (beside.others x z) h.1.0 in
           let low = (o.listed x v h.0 i).0 in
           let us = beside.small in
           let row = beside.rows (row_of x v) (λ y. z (omega arith)) in
-          absurd (never_found (sym e ∙ home_region m o x (page_start (c / 4096)) v i (subst (λ (r : Region). contains r (page_start (c / 4096)) ≡ true) row h.1.1)))
+          absurd (none_not_some (sym e ∙ home_region m o x (page_start (c / 4096)) v i (subst (λ (r : Region). contains r (page_start (c / 4096)) ≡ true) row h.1.1)))
 
-      go : (y : Found) → home_slot s x c ≡ y → Left s after x c
-      go (At v) e = (beside_stay x c v e).left
-      go Nothing e =
+      go : (y : Option ℕ) → home_slot s x c ≡ y → Left s after x c
+      go (Some v) e = (beside_stay x c v e).left
+      go None e =
           let f = none e (home_slot after x c) refl in
           record {
             same = record { seen = view_none after x c f ∙ sym (view_none s x c e); kind = kind_none after x c f ∙ sym (kind_none s x c e) };

@@ -1,5 +1,5 @@
 -- Carve changes what no one sees: a split region's page is seen in the part that it goes to as it was in the whole.
-use Rattle.std.specs.Prelude.{◌≡◌, ◌≢◌, Bool, true, false, ◌&&◌, not, cond, List, [], ◌∷◌, ◌++◌, length, get_or, set, take, drop, replicate, eqb, ltb, leb}
+use Rattle.std.specs.Prelude.{◌≡◌, ◌≢◌, Bool, true, false, ◌&&◌, not, cond, List, [], ◌∷◌, ◌++◌, length, get_or, set, take, drop, replicate, eqb, ltb, leb, Option, Some, None}
 use Rattle.std.proofs.Math.Path.{refl, ap}
 use Rattle.std.proofs.Common.{sym, subst, ◌∙◌, inl, inr, arith, length-set, get_or-set_same, get_or-set_other}
 use Prim.Native.Nat.{ℕ, ◌+◌, ◌-◌, ◌*◌, ◌/◌, ◌%◌, ◌≤◌, ◌<◌, min}
@@ -8,8 +8,6 @@ use borrow.Author.Tests.{eqb-true, eq-eqb, ltb-true, ltb-false, leb-true, le-leb
 use Rattle.model.specs.declared.Region.{Region}
 use Rattle.model.specs.declared.Entry.{Entry}
 use Rattle.model.specs.declared.File.{File}
-use Rattle.model.specs.declared.Found.{Found}
-use Rattle.model.specs.declared.Found.TheVariants.{At, Nothing}
 use Rattle.laws.specs.Lists.{keep, pad}
 use Rattle.model.specs.Machine.{Machine, State, with_machine, with_order, process_at, region_at, row_of, order_of, no_region, no_file}
 use Rattle.model.specs.MachineLaws.{order_put}
@@ -47,9 +45,9 @@ use Rattle.isolation.specs.Quiet.{Quiet, row_is, quiet_state}
 abbrev fill_by : List ℕ → File → ℕ → ℕ → List ℕ
 fill_by bytes file n at = pad 4096 0 (take (min n (file.len - at)) (drop (file.offset + at) bytes))
 
-abbrev bare_by : List ℕ → List File → Bool → ℕ → ℕ → ℕ → ℕ → Found
+abbrev bare_by : List ℕ → List File → Bool → ℕ → ℕ → ℕ → ℕ → Option ℕ
 bare_by bytes files isfile file n at offset =
-    cond (isfile && ltb 0 n && eqb (get_or files file no_file).readable 0) Nothing (At (get_or (cond isfile (fill_by bytes (get_or files file no_file) n at) (replicate 4096 0)) offset 0))
+    cond (isfile && ltb 0 n && eqb (get_or files file no_file).readable 0) None (Some (get_or (cond isfile (fill_by bytes (get_or files file no_file) n at) (replicate 4096 0)) offset 0))
 
 bare_is_by : (bytes : List ℕ) (files : List File) (r : Region) (page offset : ℕ) → bare bytes files r page offset ≡ bare_by bytes files (eqb r.kind 2) r.file (from_file r page) (r.offset + (page_start page - r.start.0)) offset
 unfolding file_page
@@ -57,7 +55,7 @@ bare_is_by bytes files r page offset = refl
 
 module _ (bytes : List ℕ) (files : List File) (r x : Region) (page offset : ℕ) (kind : x.kind ≡ r.kind) (file : x.file ≡ r.file) (some : from_file x page ≡ from_file r page) (place : r.kind ≡ 2 → x.offset + (page_start page - x.start.0) ≡ r.offset + (page_start page - r.start.0)) where
   -- what would fill the page of r, from a place in the file
-  abbrev from : ℕ → Found
+  abbrev from : ℕ → Option ℕ
   from place = bare_by bytes files (eqb r.kind 2) r.file (from_file r page) place offset
 
   -- the place matters for a file alone
@@ -142,13 +140,13 @@ high_inside r b pg x y v z h = rw (le-leb b (pg * 4096) (omega arith), lt-ltb (p
 record Moved (st : State) (m n : Machine) (q c : ℕ) : Type 0 where
   same : Same (with_machine st m) (with_machine st n) q c
   slot : ℕ
-  home : region_for n q (page_start (c / 4096)) ≡ At slot
+  home : region_for n q (page_start (c / 4096)) ≡ Some slot
 
 abbrev Still : State → Machine → Machine → Type 0
-Still st m n = (q c v : ℕ) → region_for m q (page_start (c / 4096)) ≡ At v → Moved st m n q c
+Still st m n = (q c v : ℕ) → region_for m q (page_start (c / 4096)) ≡ Some v → Moved st m n q c
 
 -- a page whose row, entry and list are left alone
-quiet_moved : {d e : ℕ → ℕ} (st : State) (m n : Machine) → Owing d m → Owing e n → (q c v : ℕ) → region_for m q (page_start (c / 4096)) ≡ At v → Quiet m n q v (c / 4096) → Moved st m n q c
+quiet_moved : {d e : ℕ → ℕ} (st : State) (m n : Machine) → Owing d m → Owing e n → (q c v : ℕ) → region_for m q (page_start (c / 4096)) ≡ Some v → Quiet m n q v (c / 4096) → Moved st m n q c
 quiet_moved st m n o k q c v e quiet =
     let un = quiet_state (with_machine st m) n q v (c / 4096) (c % 4096) quiet in
     record { same = same_undisturbed (with_machine st m) (with_machine st n) o k q c v e un; slot = v; home = still_home (with_machine st m) (with_machine st n) o k q c v e un }
@@ -259,7 +257,7 @@ module _ (st : State) (d : ℕ → ℕ) (p : ℕ) (x : Machine) (l : List ℕ) (
   no_owner i e = let back : (entry_at w i).owner - 1 ≡ row = omega arith in ((ow.entries i).used (λ z. omega arith)).used (ap (λ (j : ℕ). (row_at w j).kind) back ∙ ap (λ (y : Region). y.kind) (w_row row) ∙ is_free.1)
 
   -- what is not split
-  elsewhere : (q c v : ℕ) → region_for w q (page_start (c / 4096)) ≡ At v → row_of q v ≢ src → Moved st w n q c
+  elsewhere : (q c v : ℕ) → region_for w q (page_start (c / 4096)) ≡ Some v → row_of q v ≢ src → Moved st w n q c
   elsewhere q c v e z =
       let h = home_at w ow q (c / 4096) v e in
       let used = (ow.listed q v h.low h.listed).1 in
@@ -278,7 +276,7 @@ module _ (st : State) (d : ℕ → ℕ) (p : ℕ) (x : Machine) (l : List ℕ) (
       back other i a (stays f y) = n_entry i ∙ y
 
   -- what is: the part at slot u
-  module _ (c : ℕ) (home : region_for w p (page_start (c / 4096)) ≡ At s) (u : ℕ) (y : Region) (is : row_at n (row_of p u) ≡ y) (listed : In u (order_of n p)) (kind : y.kind ≡ r.kind) (unranged : y.ranged ≢ 1) (inside : contains y (page_start (c / 4096)) ≡ true)
+  module _ (c : ℕ) (home : region_for w p (page_start (c / 4096)) ≡ Some s) (u : ℕ) (y : Region) (is : row_at n (row_of p u) ≡ y) (listed : In u (order_of n p)) (kind : y.kind ≡ r.kind) (unranged : y.ranged ≢ 1) (inside : contains y (page_start (c / 4096)) ≡ true)
       (fill : bare st.bytes x.files y (c / 4096) (c % 4096) ≡ bare st.bytes x.files r (c / 4096) (c % 4096))
       (forth : (i : ℕ) → (entry_at w i).owner ≡ src + 1 → (entry_at w i).page.0 ≡ c / 4096 → ((entry_at n i).owner ≡ row_of p u + 1) × (((entry_at n i).page.0 ≡ c / 4096) × ((entry_at n i).frame.0 ≡ (entry_at w i).frame.0)))
       (back : (i : ℕ) → (entry_at n i).owner ≡ row_of p u + 1 → (entry_at n i).page.0 ≡ c / 4096 → ((entry_at w i).owner ≡ src + 1) × (((entry_at w i).page.0 ≡ c / 4096) × ((entry_at w i).frame.0 ≡ (entry_at n i).frame.0))) where
@@ -293,7 +291,7 @@ module _ (st : State) (d : ℕ → ℕ) (p : ℕ) (x : Machine) (l : List ℕ) (
         here base fr (inl a) = let e = back a.at a.owner a.page in (base, inl (record { at = a.at; owner = e.0; page = e.1.0; start = e.1.1 ∙ a.start; frame = a.frame }))
         here base fr (inr a) = absurd (unranged (ap (λ (z : Region). z.ranged) (sym is) ∙ a.ranged))
 
-    n_home : region_for n p (page_start (c / 4096)) ≡ At u
+    n_home : region_for n p (page_start (c / 4096)) ≡ Some u
     n_home = at_home n on p (c / 4096) u (record { low = low; listed = listed; inside = ap (λ (z : Region). contains z (page_start (c / 4096))) is ∙ inside })
 
     filled : bare st.bytes n.files (row_at n (row_of p u)) (c / 4096) (c % 4096) ≡ bare st.bytes w.files (row_at w src) (c / 4096) (c % 4096)
@@ -310,7 +308,7 @@ module _ (st : State) (d : ℕ → ℕ) (p : ℕ) (x : Machine) (l : List ℕ) (
       home = n_home;
     }
 
-  module _ (c : ℕ) (home : region_for w p (page_start (c / 4096)) ≡ At s) where
+  module _ (c : ℕ) (home : region_for w p (page_start (c / 4096)) ≡ Some s) where
     abbrev pg : ℕ
     pg = c / 4096
 
@@ -373,7 +371,7 @@ module _ (st : State) (d : ℕ → ℕ) (p : ℕ) (x : Machine) (l : List ℕ) (
           let g = s_is.0 in
           let same : p ≡ q = omega arith in
           let slot : v ≡ s = omega arith in
-          subst (λ (j : ℕ). Moved st w n j c) same (split_moved c (subst (λ (j : ℕ). region_for w j (page_start (c / 4096)) ≡ At s) (sym same) (e ∙ ap (λ (j : ℕ). At j) slot)))
+          subst (λ (j : ℕ). Moved st w n j c) same (split_moved c (subst (λ (j : ℕ). region_for w j (page_start (c / 4096)) ≡ Some s) (sym same) (e ∙ ap (λ (j : ℕ). Some j) slot)))
 
 -- ---- the whole carve
 

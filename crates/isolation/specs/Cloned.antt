@@ -1,9 +1,8 @@
 -- What the clone of a region into a process leaves alone, and what the clone's process then sees: of a clone that shares and of one that copies.
-use Rattle.std.specs.Prelude.{◌≡◌, refl, ◌≢◌, ℕ, ◌+◌, ◌/◌, ◌<◌}
+use Rattle.std.specs.Prelude.{◌≡◌, refl, ◌≢◌, ℕ, ◌+◌, ◌/◌, ◌<◌, Some, None}
 use Rattle.std.proofs.Common.{ap, sym, ◌∙◌, inl, inr}
 use Rattle.model.specs.declared.Region.{Region}
 use Rattle.model.specs.declared.Entry.{Entry}
-use Rattle.model.specs.declared.Found.TheVariants.{At, Nothing}
 use Rattle.model.specs.Machine.{State, region_at, row_of, order_of, mapped_of}
 use Rattle.model.specs.Lookup.{contains}
 use Rattle.model.specs.Paging.{page_start}
@@ -19,7 +18,7 @@ use Rattle.isolation.specs.Beside.{RowNow, Beside, Left, left_refl, left_then, S
 
 -- what a clone into q leaves alone
 pub record Facts (s after : State) (q : ℕ) : Type 0 where
-  pub stay : (x c v : ℕ) → home_slot s x c ≡ At v → Stay s after x c v
+  pub stay : (x c v : ℕ) → home_slot s x c ≡ Some v → Stay s after x c v
   pub others : (x c : ℕ) → x ≢ q → Left s after x c
   pub rows : (j : ℕ) → Used (row_at s.machine j) → row_at after.machine j ≡ row_at s.machine j
   pub entries : (i : ℕ) → (entry_at s.machine i).owner ≢ 0 → entry_at after.machine i ≡ entry_at s.machine i
@@ -39,7 +38,7 @@ facts_then f g = record {
 pub record Shown (s after : State) (p q c : ℕ) : Type 0 where
   pub inherited : Inherited s after p q c
   pub slot : ℕ
-  pub home : home_slot after q c ≡ At slot
+  pub home : home_slot after q c ≡ Some slot
 
 -- what is shown stays so where the clone's page is left alone, and was so where the source's was
 pub shown_then : {s u after : State} {p q c : ℕ} → (k : Shown s u p q c) → Stay u after q c k.slot → Shown s after p q c
@@ -61,10 +60,10 @@ pub record Eager (s after : State) (p t q : ℕ) : Type 0 where
   pub slot : ℕ
   pub small : slot < 64
   pub free : (region_at s.machine q slot).kind ≡ 0
-  pub home : (c : ℕ) → home_slot s p c ≡ At t → home_slot after q c ≡ At slot
+  pub home : (c : ℕ) → home_slot s p c ≡ Some t → home_slot after q c ≡ Some slot
   pub mapped : (x : ℕ) → mapped_of after.machine x ≡ mapped_of s.machine x
-  pub own : (c f : ℕ) → home_slot s p c ≡ At t → frame_at s p c ≡ At f → OwnEntry after.machine q slot (c / 4096)
-  pub bare : (c : ℕ) → home_slot s p c ≡ At t → frame_at s p c ≡ Nothing → frame_at after q c ≡ Nothing
+  pub own : (c f : ℕ) → home_slot s p c ≡ Some t → frame_at s p c ≡ Some f → OwnEntry after.machine q slot (c / 4096)
+  pub bare : (c : ℕ) → home_slot s p c ≡ Some t → frame_at s p c ≡ None → frame_at after q c ≡ None
 
 -- a backing that an entry of another region than the source holds alone
 abbrev pub LoneStays : State → State → ℕ → ℕ → Type 0
@@ -74,14 +73,14 @@ LoneStays s after p t =
 
 -- what the source's process has mapped outside the region translates as it did
 abbrev pub RightsStay : State → State → ℕ → ℕ → Type 0
-RightsStay s after p t = (c v : ℕ) → home_slot s p c ≡ At v → v ≢ t → page_at after.machine p c ≡ page_at s.machine p c
+RightsStay s after p t = (c v : ℕ) → home_slot s p c ≡ Some v → v ≢ t → page_at after.machine p c ≡ page_at s.machine p c
 
 -- slot t of process p cloned into q
 pub record Cloned (s after : State) (p t q : ℕ) : Type 0 where
   pub facts : Facts s after q
-  pub shown : (c : ℕ) → home_slot s p c ≡ At t → Shown s after p q c
+  pub shown : (c : ℕ) → home_slot s p c ≡ Some t → Shown s after p q c
   -- a home that q had not shows what p shows there
-  pub new : (c v : ℕ) → home_slot s q c ≡ Nothing → home_slot after q c ≡ At v → Shown s after p q c
+  pub new : (c v : ℕ) → home_slot s q c ≡ None → home_slot after q c ≡ Some v → Shown s after p q c
   pub lone : LoneStays s after p t
   pub rights : RightsStay s after p t
   pub eager : (region_at s.machine p t).fork ≡ 1 → Eager s after p t q
@@ -102,7 +101,7 @@ module _ {d e : ℕ → ℕ} (s after : State) (o : Owing d s.machine) (k : Owin
       entry i taken (inr z) = absurd (taken z.0)
 
   -- a new home in q lies in the new region, which covers what the source covers
-  pub beside_source : (p t : ℕ) → In t (order_of s.machine p) → looks (region_at after.machine q u) ≡ looks (region_at s.machine p t) → (c v : ℕ) → home_slot s q c ≡ Nothing → home_slot after q c ≡ At v → home_slot s p c ≡ At t
+  pub beside_source : (p t : ℕ) → In t (order_of s.machine p) → looks (region_at after.machine q u) ≡ looks (region_at s.machine p t) → (c v : ℕ) → home_slot s q c ≡ None → home_slot after q c ≡ Some v → home_slot s p c ≡ Some t
   beside_source p t listed look c v none some =
       let inside = beside_new s after o k q u beside c v none some in
       home_region s.machine o p (page_start (c / 4096)) t listed (ap (λ (r : Region). contains r (page_start (c / 4096))) (sym look) ∙ inside)

@@ -1,5 +1,5 @@
 -- The pages that a clone shares or copies are those that are backed.
-use Rattle.std.specs.Prelude.{◌≡◌, ◌⊎◌, ◌≢◌, Bool, cond, List, [], ◌∷◌, map, ℕ, zero, suc, ◌+◌, ◌-◌, ◌/◌, ◌≤◌, ◌<◌, get_or, eqb, ltb}
+use Rattle.std.specs.Prelude.{◌≡◌, ◌⊎◌, ◌≢◌, Bool, cond, List, [], ◌∷◌, map, ℕ, zero, suc, ◌+◌, ◌-◌, ◌/◌, ◌≤◌, ◌<◌, get_or, eqb, ltb, Option, Some, None}
 use Rattle.std.proofs.Math.Path.{refl, ap, sym}
 use Rattle.std.proofs.Common.{subst, ◌∙◌, inl}
 use Rattle.std.proofs.Math.Logic.{inr}
@@ -10,8 +10,6 @@ use Rattle.std.proofs.Math.Decide.{ℕ_discrete}
 use borrow.Author.Tests.{eqb-true, eq-eqb}
 use Rattle.model.specs.declared.Region.{Region}
 use Rattle.model.specs.declared.Entry.{Entry}
-use Rattle.model.specs.declared.Found.{Found}
-use Rattle.model.specs.declared.Found.TheVariants.{At, Nothing}
 use Rattle.laws.specs.Lists.{keep, up_from}
 use Rattle.model.specs.Machine.{Machine, region_at, row_of, no_entry}
 use Rattle.model.specs.Lookup.{is_ranged, is_found}
@@ -86,13 +84,13 @@ module _ (m : Machine) (p t : ℕ) where
   unfolding entry_for
   none_found pg n = go (entry_for m src pg) refl
     where
-      go : (x : Found) → entry_for m src pg ≡ x → not (is_found x) ≡ true
-      go Nothing e = refl
-      go (At i) e = let k = (tells_entry src pg (entry_at m i)).yes (first_found (entry_of src pg) m.entries i no_entry e).1 in absurd (n i k.0 k.1)
+      go : (x : Option ℕ) → entry_for m src pg ≡ x → not (is_found x) ≡ true
+      go None e = refl
+      go (Some i) e = let k = (tells_entry src pg (entry_at m i)).yes (first_found (entry_of src pg) m.entries i no_entry e).1 in absurd (n i k.0 k.1)
 
-  found_none : (x : Found) → not (is_found x) ≡ true → x ≡ Nothing
-  found_none Nothing e = refl
-  found_none (At j) e = absurd (false≢true e)
+  found_none : (x : Option ℕ) → not (is_found x) ≡ true → x ≡ None
+  found_none None e = refl
+  found_none (Some j) e = absurd (false≢true e)
 
   -- what a listed page is backed by
   pub backed_of : (h : Held) → In h (backed_pages m p t) → (base : ℕ) × Backs m src h.page base h.frame

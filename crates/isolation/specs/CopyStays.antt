@@ -1,17 +1,15 @@
 -- A clone that copies its pages: everyone sees what he saw, and the clone what the source shows.
-use Rattle.std.specs.Prelude.{◌≡◌, ◌⊎◌, ◌≢◌, true, false, not, List, [], ◌∷◌, ◌++◌, ℕ, ◌+◌, ◌-◌, ◌*◌, ◌/◌, ◌%◌, ◌≤◌, ◌<◌, length, get_or, set, leb, ltb}
+use Rattle.std.specs.Prelude.{◌≡◌, ◌⊎◌, ◌≢◌, true, false, not, List, [], ◌∷◌, ◌++◌, ℕ, ◌+◌, ◌-◌, ◌*◌, ◌/◌, ◌%◌, ◌≤◌, ◌<◌, length, get_or, set, leb, ltb, Option, Some, None}
 use Rattle.std.proofs.Math.Path.{refl}
 use Rattle.std.proofs.Common.{ap, sym, subst, ◌∙◌, inl, inr, arith, get_or-set_same, get_or-set_other, leb-true}
+use Rattle.laws.specs.ResultLaws.{none_not_some}
 use Rattle.model.specs.declared.Region.{Region}
 use Rattle.model.specs.declared.Entry.{Entry}
 use Rattle.model.specs.declared.Backing.{Backing}
-use Rattle.model.specs.declared.Found.{Found}
-use Rattle.model.specs.declared.Found.TheVariants.{At, Nothing}
 use Rattle.laws.specs.Lists.{each}
 use Rattle.model.specs.Machine.{Machine, State, with_machine, with_order, process_at, region_at, row_of, order_of, mapped_of, no_region, no_entry, no_backing}
 use Rattle.model.specs.MachineLaws.{Books, books_then, books_order, books_mapped}
 use Rattle.model.specs.Lookup.{contains, free_slot, free_entry, free_entries, row_found, is_found, segment_len}
-use Rattle.model.specs.LookupLaws.{never_found}
 use Rattle.laws.specs.BoolLaws.{both_true}
 use Rattle.model.specs.Paging.{page_start, translate}
 use Rattle.model.specs.Backing.{backing, backing_at, claim, add_entry, with_backings, frame_bytes, put_frame}
@@ -298,7 +296,7 @@ module _ (s : State) (sound : Sound s) (p t q : ℕ) (listed : In t (order_of s.
       used : Used r
       used = (o.listed p t (open_low machine o p (listed_open nothing machine o p t listed)) listed).1
 
-  module _ (c : ℕ) (home : home_slot s p c ≡ At t) where
+  module _ (c : ℕ) (home : home_slot s p c ≡ Some t) where
     abbrev pg : ℕ
     pg = c / 4096
 
@@ -311,24 +309,24 @@ module _ (s : State) (sound : Sound s) (p t q : ℕ) (listed : In t (order_of s.
         let l = leb-true r.start.0 (page_start pg) b.0 in
         omega arith
 
-    there_home : home_slot after q c ≡ At u
+    there_home : home_slot after q c ≡ Some u
     there_home = at_home n n_owing q pg u (record { low = q_low; listed = own; inside = ap (λ (x : Region). contains x (page_start pg)) new_row ∙ contained })
 
     -- the entry of a page that is backed in the source
-    own_entry : (f : ℕ) → frame_by (backing machine p t pg) ≡ At f → Entered (CopyOf (with_machine s added) after) n row (record { page = pg; frame = f })
+    own_entry : (f : ℕ) → frame_by (backing machine p t pg) ≡ Some f → Entered (CopyOf (with_machine s added) after) n row (record { page = pg; frame = f })
     own_entry f e = let b = source_of machine p t pg f e in more.grown.new (record { page = pg; frame = f }) (backed_in machine p t pg b.base f starts b.backs)
 
-    some : (f : ℕ) → backed_by s p t c ≡ At f → (g : ℕ) × ((backed_by after q u c ≡ At g) × (get_or after.frames (g * 4096 + c % 4096) 0 ≡ get_or s.frames (f * 4096 + c % 4096) 0))
+    some : (f : ℕ) → backed_by s p t c ≡ Some f → (g : ℕ) × ((backed_by after q u c ≡ Some g) × (get_or after.frames (g * 4096 + c % 4096) 0 ≡ get_or s.frames (f * 4096 + c % 4096) 0))
     some f e =
         let k = own_entry f e in
         let backs : Backs n row pg k.frame k.frame = inl (record { at = k.at; owner = ap (λ (x : Entry). x.owner) k.is; page = ap (λ (x : Entry). x.page.0) k.is; start = ap (λ (x : Entry). x.frame.0) k.is; frame = refl }) in
         (k.frame, ((backing_of n q u pg n_owing.once_a_page k.frame k.frame backs).0, k.right.bytes (c % 4096) (omega arith)))
 
-    none : frame_by (backing machine p t pg) ≡ Nothing → frame_by (backing n q u pg) ≡ Nothing
+    none : frame_by (backing machine p t pg) ≡ None → frame_by (backing n q u pg) ≡ None
     none e = go (frame_by (backing n q u pg)) refl
       where
         listed_page : (h : Held) → In h pages → h.page ≡ pg → ⊥
-        listed_page h i z = let b = backed_of machine p t h i in never_found (sym e ∙ (backing_of machine p t pg o.once_a_page b.0 h.frame (subst (λ (x : ℕ). Backs machine src x b.0 h.frame) z b.1)).0)
+        listed_page h i z = let b = backed_of machine p t h i in none_not_some (sym e ∙ (backing_of machine p t pg o.once_a_page b.0 h.frame (subst (λ (x : ℕ). Backs machine src x b.0 h.frame) z b.1)).0)
 
         never : (base g : ℕ) → Backs n row pg base g → ⊥
         never base g (inl b) = at (row_now b.at)
@@ -338,18 +336,18 @@ module _ (s : State) (sound : Sound s) (p t q : ℕ) (listed : In t (order_of s.
             at (inr z) = listed_page z.page z.among (ap (λ (x : Entry). x.page.0) (sym z.is) ∙ b.page)
         never base g (inr b) = let z : ◌≡◌ {A = ℕ} 0 1 = sym (ap (λ (x : Region). x.ranged) new_row) ∙ b.ranged in omega arith
 
-        go : (y : Found) → frame_by (backing n q u pg) ≡ y → y ≡ Nothing
-        go Nothing f = refl
-        go (At g) f = let b = source_of n q u pg g f in absurd (never b.base g b.backs)
+        go : (y : Option ℕ) → frame_by (backing n q u pg) ≡ y → y ≡ None
+        go None f = refl
+        go (Some g) f = let b = source_of n q u pg g f in absurd (never b.base g b.backs)
 
-    pub copy_home : home_slot after q c ≡ At u
+    pub copy_home : home_slot after q c ≡ Some u
     copy_home = there_home
 
     -- a page that is backed in the source has an entry of the clone, in a backing with one holder
-    pub copied_entry : (f : ℕ) → frame_at s p c ≡ At f → OwnEntry n q u pg
+    pub copied_entry : (f : ℕ) → frame_at s p c ≡ Some f → OwnEntry n q u pg
     copied_entry f e = let k = own_entry f (ap (frame_in s p pg) (sym home) ∙ e) in record { at = k.at; frame = k.frame; is = k.is; single = k.right.single }
 
-    pub copy_bare : frame_at s p c ≡ Nothing → frame_at after q c ≡ Nothing
+    pub copy_bare : frame_at s p c ≡ None → frame_at after q c ≡ None
     copy_bare e = ap (frame_in after q pg) there_home ∙ none (ap (frame_in s p pg) (sym home) ∙ e)
 
     pub copy_inherited : Inherited s after p q c
@@ -369,5 +367,5 @@ module _ (s : State) (sound : Sound s) (p t q : ℕ) (listed : In t (order_of s.
     eager = λ e. record { slot = u; small = slot.0; free = slot.1; home = λ c h. copy_home c h; mapped = copy_mapped; own = λ c f h. copied_entry c h f; bare = λ c h. copy_bare c h };
   }
     where
-      shown : (c : ℕ) → home_slot s p c ≡ At t → Shown s after p q c
+      shown : (c : ℕ) → home_slot s p c ≡ Some t → Shown s after p q c
       shown c h = record { inherited = copy_inherited c h; slot = u; home = copy_home c h }

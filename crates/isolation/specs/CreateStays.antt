@@ -1,13 +1,11 @@
 -- Creation leaves every page as it was seen.
-use Rattle.std.specs.Prelude.{◌≡◌, ◌⊎◌, ◌≢◌, Bool, true, false, ◌&&◌, not, cond, List, [], ◌∷◌, ◌++◌, length, get_or, set, ltb}
+use Rattle.std.specs.Prelude.{◌≡◌, ◌⊎◌, ◌≢◌, Bool, true, false, ◌&&◌, not, cond, List, [], ◌∷◌, ◌++◌, length, get_or, set, ltb, Option, Some, None}
 use Rattle.std.proofs.Math.Path.{refl}
 use Rattle.std.proofs.Common.{ap, sym, subst, ◌∙◌, inl, inr, true≢false, arith, get_or-set_other, ltb-true, ltb-false}
 use Prim.Native.Nat.{ℕ, ◌+◌, ◌/◌, ◌%◌, ◌≤◌, ◌<◌}
 use Rattle.std.proofs.Math.Decide.{ℕ_discrete}
 use Rattle.model.specs.declared.Region.{Region}
 use Rattle.model.specs.declared.Place.{Place}
-use Rattle.model.specs.declared.Found.{Found}
-use Rattle.model.specs.declared.Found.TheVariants.{At, Nothing}
 use Rattle.model.specs.Machine.{Machine, State, with_machine, with_frames, with_order, process_at, region_at, row_of, order_of, mapped_of, no_region, no_entry}
 use Rattle.model.specs.Lookup.{pages_for, free_slot, row_found, is_found}
 use Rattle.model.specs.Backing.{lowest_run, claim, with_backings, zero_frames}
@@ -160,17 +158,17 @@ module _ (s : State) (sound : Sound s) (p : ℕ) (place : Place) (eager : Bool) 
       start : ℕ
       start = row_found (spot m p place (round_up r.size))
 
-      never : run_needed eager r ≡ true → lowest_run m (pages_for r.size) ≡ Nothing → ⊥
+      never : run_needed eager r ≡ true → lowest_run m (pages_for r.size) ≡ None → ⊥
       never e q = true≢false (sym (rw (e, q) refl) ∙ found)
 
       -- what is created, with the run f
-      made : Found → State
+      made : Option ℕ → State
       made f = with_machine (with_run s f (pages_for r.size)) (add_region (with_run s f (pages_for r.size)).machine p (placed_at r start f))
 
-      go : (b : Bool) → run_needed eager r ≡ b → (x : Found) → lowest_run m (pages_for r.size) ≡ x → Sound (made (cond b x Nothing)) → Stays s (made (cond b x Nothing)) q c
-      go false e x w y = plain (placed_at r start Nothing) y
-      go true e (At f) w y = with_run_stays f (pages_for r.size) (lowest_run_free nothing m o (pages_for r.size) f w) (placed_at r start (At f)) y
-      go true e Nothing w y = absurd (never e w)
+      go : (b : Bool) → run_needed eager r ≡ b → (x : Option ℕ) → lowest_run m (pages_for r.size) ≡ x → Sound (made (cond b x None)) → Stays s (made (cond b x None)) q c
+      go false e x w y = plain (placed_at r start None) y
+      go true e (Some f) w y = with_run_stays f (pages_for r.size) (lowest_run_free nothing m o (pages_for r.size) f w) (placed_at r start (Some f)) y
+      go true e None w y = absurd (never e w)
 
 create_same : (s : State) → Sound s → (p : ℕ) (place : Place) (eager : Bool) (r : Region) (q c : ℕ) → PrivateAt s q c → Sound (calls.create s p place eager r).state → Stays s (calls.create s p place eager r).state q c
 unfolding calls.create create_refusals

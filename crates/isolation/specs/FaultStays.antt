@@ -1,23 +1,18 @@
 -- A page fault changes what no one sees.
-use Rattle.std.specs.Prelude.{◌≡◌, ◌⊎◌, Bool, ◌&&◌, not, List, ℕ, ◌+◌, ◌*◌, ◌/◌, ◌%◌, ◌≤◌, ◌<◌, length, get_or, set, eqb}
+use Rattle.std.specs.Prelude.{◌≡◌, ◌⊎◌, Bool, ◌&&◌, not, List, ℕ, ◌+◌, ◌*◌, ◌/◌, ◌%◌, ◌≤◌, ◌<◌, length, get_or, set, eqb, Option, Some, None, Result, Ok, Err, ⊤}
 use Rattle.std.proofs.Math.Path.{refl, ap}
 use Rattle.std.proofs.Common.{sym, subst, ◌∙◌, inl, inr, arith, get_or-set_same}
 use Rattle.std.proofs.Math.Bool.{true, false, cond}
 use Rattle.std.proofs.Math.Decide.{ℕ_discrete}
+use Rattle.answers.specs.declared.Refusal.{Refusal}
 use Rattle.address.specs.declared.PhysFrame.{PhysFrame}
 use Rattle.model.specs.declared.Region.{Region}
 use Rattle.model.specs.declared.Mapping.{Mapping}
 use Rattle.model.specs.declared.Entry.{Entry}
-use Rattle.model.specs.declared.Found.{Found}
-use Rattle.model.specs.declared.Found.TheVariants.{At, Nothing}
-use Rattle.model.specs.declared.Translated.{Translated}
-use Rattle.model.specs.declared.Translated.TheVariants.{Mapped, NotMapped}
 use Rattle.model.specs.declared.Backed.{Backed}
 use Rattle.model.specs.declared.Backed.TheVariants.{ByEntry, ByRange, Unbacked}
 use Rattle.model.specs.declared.Way.{Way}
 use Rattle.model.specs.declared.Way.TheVariants.{Refuse, Already, Restore, Map, Copy, Fill}
-use Rattle.model.specs.declared.Done.{Done}
-use Rattle.model.specs.declared.Done.TheVariants.{Yes, No}
 use Rattle.model.specs.Machine.{Machine, State, with_machine, with_mapped, region_at, row_of, order_of, mapped_of, no_entry, no_region}
 use Rattle.model.specs.MachineLaws.{books_then, books_claim, books_re_entry, books_order, order_mapped}
 use Rattle.model.specs.Answers.{fine, unless, first_of}
@@ -60,12 +55,12 @@ unfolding region_for
 region_same m n q a e f = λ k. first_slot (λ s. contains (get_or (e k) (row_of q s) no_region) a) (f k)
 
 -- two states with the same homes
-pub same_homes : (s after : State) (q c : ℕ) → home_slot after q c ≡ home_slot s q c → ((t : ℕ) → home_slot s q c ≡ At t → Same s after q c) → Same s after q c
+pub same_homes : (s after : State) (q c : ℕ) → home_slot after q c ≡ home_slot s q c → ((t : ℕ) → home_slot s q c ≡ Some t → Same s after q c) → Same s after q c
 same_homes s after q c e f = go (home_slot s q c) refl
   where
-    go : (x : Found) → home_slot s q c ≡ x → Same s after q c
-    go (At t) z = f t z
-    go Nothing z = record { seen = view_none after q c (e ∙ z) ∙ sym (view_none s q c z); kind = kind_none after q c (e ∙ z) ∙ sym (kind_none s q c z) }
+    go : (x : Option ℕ) → home_slot s q c ≡ x → Same s after q c
+    go (Some t) z = f t z
+    go None z = record { seen = view_none after q c (e ∙ z) ∙ sym (view_none s q c z); kind = kind_none after q c (e ∙ z) ∙ sym (kind_none s q c z) }
 
 -- ---- the page table alone
 
@@ -79,7 +74,7 @@ mapped_same s sound p l q c sound' = same_homes s after q c (region_same s.machi
     after : State
     after = with_machine s n
 
-    at : (t : ℕ) → home_slot s q c ≡ At t → Same s after q c
+    at : (t : ℕ) → home_slot s q c ≡ Some t → Same s after q c
     at t e =
         let o = sound_owing s sound in
         let h = home_at s.machine o q (c / 4096) t e in
@@ -112,7 +107,7 @@ files_re_entry m new row pg (ByRange f n) = refl
 files_re_entry m new row pg Unbacked = refl
 
 module _ (s : State) (sound : Sound s) (p t pg : ℕ) (home : Home s.machine p t pg) (content : List ℕ) (long : length content ≡ 4096) (frame : no_frame s.machine ≡ false) (left : (not (by_entry (backing s.machine p t pg)) && no_entry_left s.machine) ≡ false)
-    (fills : (c : ℕ) → c / 4096 ≡ pg → home_slot s p c ≡ At t → view s p c ≡ At (get_or content (c % 4096) 0)) (sound' : Sound (own_frame s p t pg content)) where
+    (fills : (c : ℕ) → c / 4096 ≡ pg → home_slot s p c ≡ Some t → view s p c ≡ Some (get_or content (c % 4096) 0)) (sound' : Sound (own_frame s p t pg content)) where
   abbrev m : Machine
   m = s.machine
 
@@ -171,7 +166,7 @@ module _ (s : State) (sound : Sound s) (p t pg : ℕ) (home : Home s.machine p t
   entry_at_is j = subst (λ l. (get_or l j no_entry ≡ entry_at m j) ⊎ ((j ≡ put.at) × (get_or l j no_entry ≡ entry_on (row_of p t) pg new))) (sym n_entries) (set_either m.entries put.at (entry_on (row_of p t) pg new) j no_entry)
 
   -- other pages
-  else_where : (q c u : ℕ) → home_slot s q c ≡ At u → (row_of q u ≡ row_of p t → c / 4096 ≡ pg → ⊥) → Undisturbed s (own_frame s p t pg content) q u (c / 4096) (c % 4096)
+  else_where : (q c u : ℕ) → home_slot s q c ≡ Some u → (row_of q u ≡ row_of p t → c / 4096 ≡ pg → ⊥) → Undisturbed s (own_frame s p t pg content) q u (c / 4096) (c % 4096)
   else_where q c u e other = record {
     bytes = n_bytes;
     files = n_files;
@@ -203,27 +198,27 @@ module _ (s : State) (sound : Sound s) (p t pg : ℕ) (home : Home s.machine p t
       free base fr b z = let k = in_base m o (row_of q u) (c / 4096) base fr b in let k0 = k.0 in let k1 = k.1 in let a = run.free new (omega arith) (omega arith) base (omega arith) in omega arith
 
   -- the page itself
-  own_view : (c : ℕ) → c / 4096 ≡ pg → home_slot s p c ≡ At t → view (own_frame s p t pg content) p c ≡ view s p c
+  own_view : (c : ℕ) → c / 4096 ≡ pg → home_slot s p c ≡ Some t → view (own_frame s p t pg content) p c ≡ view s p c
   own_view c z e =
       let here = ap (λ l. get_or l put.at no_entry) n_entries ∙ get_or-set_same m.entries put.at (entry_on (row_of p t) pg new) no_entry put.there in
       let b : Backs n (row_of p t) (c / 4096) new new = inl (record { at = put.at; owner = ap (λ (x : Entry). x.owner) here; page = ap (λ (x : Entry). x.page.0) here ∙ sym z; start = ap (λ (x : Entry). x.frame.0) here; frame = refl }) in
       let f = (backing_of n p t (c / 4096) n_owing.once_a_page new new b).0 in
       view_at (own_frame s p t pg content) p c t (n_home p c ∙ e)
       ∙ ap (seen_by (own_frame s p t pg content) (region_at n p t) (c / 4096) (c % 4096)) f
-      ∙ ap (λ l. At (get_or l (new * 4096 + c % 4096) 0)) n_frames
-      ∙ ap (λ (x : ℕ). At x) (put_here s.frames new content long inside (c % 4096) (omega arith))
+      ∙ ap (λ l. Some (get_or l (new * 4096 + c % 4096) 0)) n_frames
+      ∙ ap (λ (x : ℕ). Some x) (put_here s.frames new content long inside (c % 4096) (omega arith))
       ∙ sym (fills c z e)
 
-  own_kind : (c : ℕ) → home_slot s p c ≡ At t → kind_at (own_frame s p t pg content) p c ≡ kind_at s p c
+  own_kind : (c : ℕ) → home_slot s p c ≡ Some t → kind_at (own_frame s p t pg content) p c ≡ kind_at s p c
   own_kind c e = kind_at_home (own_frame s p t pg content) p c t (n_home p c ∙ e) ∙ ap (λ l. (get_or l (row_of p t) no_region).kind) n_regions ∙ sym (kind_at_home s p c t e)
 
   pub own_same : (q c : ℕ) → Same s (own_frame s p t pg content) q c
   own_same q c = same_homes s (own_frame s p t pg content) q c (n_home q c) (λ u e. at u e (ℕ_discrete (row_of q u) (row_of p t)) (ℕ_discrete (c / 4096) pg))
     where
-      apart : (u : ℕ) → home_slot s q c ≡ At u → (row_of q u ≡ row_of p t → c / 4096 ≡ pg → ⊥) → Same s (own_frame s p t pg content) q c
+      apart : (u : ℕ) → home_slot s q c ≡ Some u → (row_of q u ≡ row_of p t → c / 4096 ≡ pg → ⊥) → Same s (own_frame s p t pg content) q c
       apart u e other = same_undisturbed s (own_frame s p t pg content) o n_owing q c u e (else_where q c u e other)
 
-      at : (u : ℕ) → home_slot s q c ≡ At u → Dec (row_of q u ≡ row_of p t) → Dec (c / 4096 ≡ pg) → Same s (own_frame s p t pg content) q c
+      at : (u : ℕ) → home_slot s q c ≡ Some u → Dec (row_of q u ≡ row_of p t) → Dec (c / 4096 ≡ pg) → Same s (own_frame s p t pg content) q c
       at u e (no x) y = apart u e (λ a b. x a)
       at u e (yes x) (no y) = apart u e (λ a b. y b)
       at u e (yes x) (yes y) =
@@ -233,7 +228,7 @@ module _ (s : State) (sound : Sound s) (p t pg : ℕ) (home : Home s.machine p t
           let a : p ≡ q = omega arith in
           let b : u ≡ t = omega arith in
           subst (λ (r : ℕ). Same s (own_frame s p t pg content) r c) a
-          (let f : home_slot s p c ≡ At t = subst (λ (r : ℕ). home_slot s r c ≡ At t) (sym a) (e ∙ ap (λ (r : ℕ). At r) b) in record { seen = own_view c y f; kind = own_kind c f })
+          (let f : home_slot s p c ≡ Some t = subst (λ (r : ℕ). home_slot s r c ≡ Some t) (sym a) (e ∙ ap (λ (r : ℕ). Some r) b) in record { seen = own_view c y f; kind = own_kind c f })
 
 -- ---- a page that is filled is not backed
 
@@ -243,7 +238,7 @@ Bare b Already = Unit {0}
 Bare b Restore = Unit {0}
 Bare b (Map f fl) = Unit {0}
 Bare b (Copy f) = Unit {0}
-Bare b Fill = frame_by b ≡ Nothing
+Bare b Fill = frame_by b ≡ None
 
 pick : (b : Backed) (x y : Way) (c : Bool) → Bare b x → Bare b y → Bare b (cond c x y)
 pick b x y true f g = f
@@ -257,22 +252,22 @@ mapped_bare r (ByEntry i f n) = pick (ByEntry i f n) _ _ (is_writable r.flags.0)
 mapped_bare r (ByRange f n) = pick (ByRange f n) _ _ (is_writable r.flags.0) (pick (ByRange f n) _ _ (eqb n 1) tt tt) tt
 mapped_bare r Unbacked = pick Unbacked _ _ (is_writable r.flags.0) tt tt
 
-translated_bare : (r : Region) (t : Translated) (b : Backed) (w : Bool) → Bare b (translated_way r t b w)
-translated_bare r (Mapped x) b w = pick b _ _ (well_mapped (Mapped x) w) tt (mapped_bare r b)
-translated_bare r NotMapped (ByEntry i f n) w = backed_bare r (ByEntry i f n) f n w
-translated_bare r NotMapped (ByRange f n) w = backed_bare r (ByRange f n) f n w
-translated_bare r NotMapped Unbacked w = pick Unbacked _ _ (is_writable r.flags.0) refl (pick Unbacked _ _ w tt refl)
+translated_bare : (r : Region) (t : Option Mapping) (b : Backed) (w : Bool) → Bare b (translated_way r t b w)
+translated_bare r (Some x) b w = pick b _ _ (well_mapped (Some x) w) tt (mapped_bare r b)
+translated_bare r None (ByEntry i f n) w = backed_bare r (ByEntry i f n) f n w
+translated_bare r None (ByRange f n) w = backed_bare r (ByRange f n) f n w
+translated_bare r None Unbacked w = pick Unbacked _ _ (is_writable r.flags.0) refl (pick Unbacked _ _ w tt refl)
 
-private_bare : (r : Region) (t : Translated) (b : Backed) (w : Bool) → Bare b (private_way r t b w)
+private_bare : (r : Region) (t : Option Mapping) (b : Backed) (w : Bool) → Bare b (private_way r t b w)
 unfolding private_way
 private_bare r t b w = pick b _ _ (is_user r.flags.0) (translated_bare r t b w) tt
 
-shared_bare : (t : Translated) (b : Backed) → Bare b (shared_way t b)
+shared_bare : (t : Option Mapping) (b : Backed) → Bare b (shared_way t b)
 unfolding shared_way
-shared_bare (Mapped x) b = tt
-shared_bare NotMapped (ByEntry i f n) = tt
-shared_bare NotMapped (ByRange f n) = tt
-shared_bare NotMapped Unbacked = tt
+shared_bare (Some x) b = tt
+shared_bare None (ByEntry i f n) = tt
+shared_bare None (ByRange f n) = tt
+shared_bare None Unbacked = tt
 
 way_bare : (m : Machine) (p s page : ℕ) (w : Bool) → Bare (backing m p s page) (fault_way m p s page w)
 unfolding fault_way
@@ -284,17 +279,17 @@ module _ (s : State) (sound : Sound s) (p t pg : ℕ) (home : Home s.machine p t
   abbrev machine : Machine
   machine = s.machine
 
-  copied : (f : ℕ) → frame_by (backing machine p t pg) ≡ At f → (x : ℕ) → x / 4096 ≡ pg → home_slot s p x ≡ At t → view s p x ≡ At (get_or (frame_bytes s.frames f) (x % 4096) 0)
-  copied f e x z h = view_at s p x t h ∙ ap (seen_by s (region_at machine p t) (x / 4096) (x % 4096)) (ap (λ (i : ℕ). frame_by (backing machine p t i)) z ∙ e) ∙ ap (λ (i : ℕ). At i) (sym (bytes_at s.frames f (x % 4096) (omega arith)))
+  copied : (f : ℕ) → frame_by (backing machine p t pg) ≡ Some f → (x : ℕ) → x / 4096 ≡ pg → home_slot s p x ≡ Some t → view s p x ≡ Some (get_or (frame_bytes s.frames f) (x % 4096) 0)
+  copied f e x z h = view_at s p x t h ∙ ap (seen_by s (region_at machine p t) (x / 4096) (x % 4096)) (ap (λ (i : ℕ). frame_by (backing machine p t i)) z ∙ e) ∙ ap (λ (i : ℕ). Some i) (sym (bytes_at s.frames f (x % 4096) (omega arith)))
 
-  filled : frame_by (backing machine p t pg) ≡ Nothing → read_fails machine (region_at machine p t) pg ≡ false → (x : ℕ) → x / 4096 ≡ pg → home_slot s p x ≡ At t → view s p x ≡ At (get_or (fill_of s (region_at machine p t) pg) (x % 4096) 0)
+  filled : frame_by (backing machine p t pg) ≡ None → read_fails machine (region_at machine p t) pg ≡ false → (x : ℕ) → x / 4096 ≡ pg → home_slot s p x ≡ Some t → view s p x ≡ Some (get_or (fill_of s (region_at machine p t) pg) (x % 4096) 0)
   unfolding read_fails fill_of
   filled e f x z h =
       view_at s p x t h ∙ ap (seen_by s (region_at machine p t) (x / 4096) (x % 4096)) (ap (λ (i : ℕ). frame_by (backing machine p t i)) z ∙ e)
-      ∙ ap (λ (i : ℕ). cond (read_fails machine (region_at machine p t) i) Nothing (At (get_or (fill_of s (region_at machine p t) i) (x % 4096) 0))) z
-      ∙ ap (λ (b : Bool). cond b Nothing (At (get_or (fill_of s (region_at machine p t) pg) (x % 4096) 0))) f
+      ∙ ap (λ (i : ℕ). cond (read_fails machine (region_at machine p t) i) None (Some (get_or (fill_of s (region_at machine p t) i) (x % 4096) 0))) z
+      ∙ ap (λ (b : Bool). cond b None (Some (get_or (fill_of s (region_at machine p t) pg) (x % 4096) 0))) f
 
-  frame_low : (f : ℕ) → frame_by (backing machine p t pg) ≡ At f → f < machine.frame_count
+  frame_low : (f : ℕ) → frame_by (backing machine p t pg) ≡ Some f → f < machine.frame_count
   frame_low f e =
       let o = sound_owing s sound in
       let k = source_of machine p t pg f e in
@@ -323,12 +318,12 @@ module _ (s : State) (sound : Sound s) (p t pg : ℕ) (home : Home s.machine p t
       way : Way
       way = fault_way machine p t pg w
 
-      leaves : Done → State
+      leaves : Result ⊤ Refusal → State
       leaves d = (unless d s (fine (go_way s p t pg way))).state
 
-      go : (d : Done) → first_of (way_refusals machine p t pg way) ≡ d → Sound (leaves (first_of (way_refusals machine p t pg way))) → Same s (leaves d) q c
-      go Yes e z = went way (way_right machine p t pg w) (way_bare machine p t pg w) (passed _ e) (subst (λ (d : Done). Sound (leaves d)) e z)
-      go (No x) e z = same_refl s q c
+      go : (d : Result ⊤ Refusal) → first_of (way_refusals machine p t pg way) ≡ d → Sound (leaves (first_of (way_refusals machine p t pg way))) → Same s (leaves d) q c
+      go (Ok tt) e z = went way (way_right machine p t pg w) (way_bare machine p t pg w) (passed _ e) (subst (λ (d : Result ⊤ Refusal). Sound (leaves d)) e z)
+      go (Err x) e z = same_refl s q c
 
 pub fault_call : (s : State) → Sound s → (p a : ℕ) (w : Bool) (q c : ℕ) → Same s (calls.fault s p a w).state q c
 unfolding calls.fault region_refusals

@@ -1,10 +1,9 @@
 -- Demand 3 whole: of every sound state, so of every state that calls reach from an empty machine.
-use Rattle.std.specs.Prelude.{◌≡◌, ◌≢◌, true, ℕ, ◌<◌, get_or}
+use Rattle.std.specs.Prelude.{◌≡◌, ◌≢◌, true, ℕ, ◌<◌, get_or, Some}
 use Rattle.std.proofs.Common.{ap, sym, subst, ◌∙◌, arith}
+use Rattle.laws.specs.ResultLaws.{some_same}
 use Rattle.model.specs.declared.Mapping.{Mapping}
-use Rattle.model.specs.declared.Found.TheVariants.{At}
 use Rattle.model.specs.Machine.{Machine, State, region_at, mapped_of, no_mapping}
-use Rattle.model.specs.LookupLaws.{same_slot}
 use Rattle.model.specs.Paging.{page_start, is_writable}
 use Rattle.model.specs.Backing.{backing}
 use Rattle.model.specs.Protect.{holders_by}
@@ -51,7 +50,7 @@ module _ (s : State) (sound : Sound s) where
           let r = in_row no_mapping x (mapped_of m p) i in
           let z = o.sizes.processes in
           let l = low in
-          subst (λ (y : Mapping). home_of m p y ≡ At homed.slot → Flagged (region_at m p homed.slot) y.flags.0 (holders_by (backing m p homed.slot y.page.0))) r.is
+          subst (λ (y : Mapping). home_of m p y ≡ Some homed.slot → Flagged (region_at m p homed.slot) y.flags.0 (holders_by (backing m p homed.slot y.page.0))) r.is
           (sound.r5 p (omega arith) r.row r.inside homed.slot) homed.home
 
       lone : (region_at m p homed.slot).kind ≢ 3 → is_writable x.flags.0 ≡ true → (holders_by (backing m p homed.slot x.page.0) ≡ 1) × Alone m p homed.slot x.page.0 x.frame.0
@@ -64,14 +63,14 @@ module _ (s : State) (sound : Sound s) where
   pub sound_books : Demand3 m
   sound_books = record { counted = λ f. let e = o.counted f in omega arith; held = o.held; unheld = o.unheld; apart = backings_apart m o; mapped = λ p i h. mapped_right p (get_or (mapped_of m p) i no_mapping) (in_at no_mapping (mapped_of m p) i h) }
 
-  one_side_of : (p q slot : ℕ) (x y : Mapping) → In x (mapped_of m p) → In y (mapped_of m q) → home_of m p x ≡ At slot → (region_at m p slot).kind ≢ 3 → is_writable x.flags.0 ≡ true → y.frame.0 ≡ x.frame.0 → (q ≡ p) × (y.page.0 ≡ x.page.0)
+  one_side_of : (p q slot : ℕ) (x y : Mapping) → In x (mapped_of m p) → In y (mapped_of m q) → home_of m p x ≡ Some slot → (region_at m p slot).kind ≢ 3 → is_writable x.flags.0 ≡ true → y.frame.0 ≡ x.frame.0 → (q ≡ p) × (y.page.0 ≡ x.page.0)
   one_side_of p q slot x y i j home private writable same =
       let a = mapped_right p x i in
       let b = mapped_right q y j in
-      let here : a.slot ≡ slot = same_slot (sym a.home ∙ home) in
+      let here : a.slot ≡ slot = some_same (sym a.home ∙ home) in
       let there = home_listed m q (page_start y.page.0) b.slot b.home in
       let small = (o.listed q b.slot (mapped_low m o q y j) there.0).0 in
-      let k = (a.lone (λ z. private (ap (λ (t : ℕ). (region_at m p t).kind) (sym here) ∙ z)) writable).1 q b.slot y.page.0 small there.1 (b.frame ∙ ap (λ (f : ℕ). At f) same) in
+      let k = (a.lone (λ z. private (ap (λ (t : ℕ). (region_at m p t).kind) (sym here) ∙ z)) writable).1 q b.slot y.page.0 small there.1 (b.frame ∙ ap (λ (f : ℕ). Some f) same) in
       (k.0, k.1.1)
 
   pub one_side_holds : OneSideWritable m

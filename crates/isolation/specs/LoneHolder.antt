@@ -1,12 +1,11 @@
 -- A backing with one holder backs one page of one region; a shared one backs no private page.
-use Rattle.std.specs.Prelude.{◌≡◌, ◌≢◌, true, ℕ, ◌+◌, ◌-◌, ◌/◌, ◌≤◌, ◌<◌, length, set, leb, ltb}
+use Rattle.std.specs.Prelude.{◌≡◌, ◌≢◌, true, ℕ, ◌+◌, ◌-◌, ◌/◌, ◌≤◌, ◌<◌, length, set, leb, ltb, Some}
 use Rattle.std.proofs.Math.Path.{refl}
 use Rattle.std.proofs.Common.{ap, sym, subst, ◌∙◌, inl, inr, arith, get_or-set_other, eq-eqb, ne_eqb, leb-true, ltb-true}
 use Rattle.std.proofs.Math.Decide.{ℕ_discrete}
 use Rattle.model.specs.declared.Region.{Region}
 use Rattle.model.specs.declared.Entry.{Entry}
 use Rattle.model.specs.declared.Backing.{Backing}
-use Rattle.model.specs.declared.Found.TheVariants.{At}
 use Rattle.model.specs.declared.Backed.TheVariants as by
 use Rattle.model.specs.Machine.{Machine, with_entries, with_regions, region_at, row_of, no_entry, no_region}
 use Rattle.model.specs.Lookup.{contains, is_shared}
@@ -173,7 +172,7 @@ module _ (m : Machine) (o : Owing nothing m) where
       (omega arith, (omega arith, sym k.1))
 
   -- an entry with a backing of one frame and one holder makes the page its region's own
-  through_entry : (p slot pg i : ℕ) → entry_for m (row_of p slot) pg ≡ At i → backing m p slot pg ≡ by.ByEntry i (entry_at m i).frame (backing_at m (entry_at m i).frame.0).holders
+  through_entry : (p slot pg i : ℕ) → entry_for m (row_of p slot) pg ≡ Some i → backing m p slot pg ≡ by.ByEntry i (entry_at m i).frame (backing_at m (entry_at m i).frame.0).holders
   unfolding backing
   through_entry p slot pg i e = rw e refl
 

@@ -1,11 +1,10 @@
 -- The calls that look, pins, protection, open, and the end of regions: what they leave alone stays as it was seen.
-use Rattle.std.specs.Prelude.{◌≡◌, refl, ◌≢◌, Bool, true, false, ◌&&◌, not, cond, ℕ, ◌+◌, ◌-◌, ◌/◌, ◌%◌, ◌<◌, set, take, eqb}
+use Rattle.std.specs.Prelude.{◌≡◌, refl, ◌≢◌, Bool, true, false, ◌&&◌, not, cond, ℕ, ◌+◌, ◌-◌, ◌/◌, ◌%◌, ◌<◌, set, take, eqb, Some}
 use Rattle.std.proofs.Common.{ap, sym, subst, ◌∙◌, inl, inr, true≢false, arith, get_or-set_other, eqb-true, eq-eqb}
 use mathlib.Core.List.{List, [], ◌∷◌}
 use Rattle.std.proofs.lemmas.Bool.{eqb-false}
 use Rattle.answers.specs.declared.Refusal.{Refusal}
 use Rattle.model.specs.declared.Process.{Process}
-use Rattle.model.specs.declared.Found.TheVariants.{At}
 use Rattle.laws.specs.Lists.{part, each}
 use Rattle.model.specs.Machine.{Machine, State, with_machine, with_processes, with_region, with_mapped, process_at, region_at, row_of, order_of, no_process}
 use Rattle.model.specs.MachineLaws.{order_mapped}
@@ -174,9 +173,9 @@ remove_stays p a s sound q c private free = machine_stays s sound q c private _ 
       where
         other : p ≡ q → slot_at s p a ≡ t → ⊥
         other x y =
-            let here : region_for s.machine q a ≡ At t = subst (λ (r : ℕ). region_for s.machine r a ≡ At t) x (found_row (region_for s.machine p a) found ∙ ap (λ (r : ℕ). At r) y) in
+            let here : region_for s.machine q a ≡ Some t = subst (λ (r : ℕ). region_for s.machine r a ≡ Some t) x (found_row (region_for s.machine p a) found ∙ ap (λ (r : ℕ). Some r) y) in
             let there = at_home s.machine o q (c / 4096) t home in
-            true≢false (sym (ap (λ (b : Bool). b && same_slot (region_for s.machine q a) (home_slot s q c)) (eq-eqb p q x) ∙ ap (λ f. same_slot f (home_slot s q c)) here ∙ ap (same_slot (At t)) there ∙ eq-eqb t t refl) ∙ free)
+            true≢false (sym (ap (λ (b : Bool). b && same_slot (region_for s.machine q a) (home_slot s q c)) (eq-eqb p q x) ∙ ap (λ f. same_slot f (home_slot s q c)) here ∙ ap (same_slot (Some t)) there ∙ eq-eqb t t refl) ∙ free)
 
 module _ (d : ℕ → ℕ) (p : ℕ) (low : p < 8) (q t pg : ℕ) (small : q < 8) (other : q ≢ p) where
   pub clear_quiet : (l : List ℕ) (m : Machine) → Owing d m → Once l → ((u : ℕ) → In u l → In u (order_of m p)) → In t (order_of m q) → Quiet m (each (λ s n. remove_region n p s) l m) q t pg

@@ -1,13 +1,10 @@
 -- Populate and eager populate change what no one sees: faults one after the other.
-use Rattle.std.specs.Prelude.{◌≡◌, Bool, cond, ltb}
+use Rattle.std.specs.Prelude.{◌≡◌, Bool, cond, ltb, Option, Some, None, Result, Ok, Err, ⊤}
 use Rattle.std.proofs.Math.Path.{refl}
 use Rattle.std.proofs.Math.Bool.{true, false}
 use mathlib.Core.List.{List, [], ◌∷◌}
 use Prim.Native.Nat.{ℕ, zero, suc, ◌+◌, ◌/◌}
-use Rattle.model.specs.declared.Found.{Found}
-use Rattle.model.specs.declared.Found.TheVariants.{At, Nothing}
-use Rattle.model.specs.declared.Done.{Done}
-use Rattle.model.specs.declared.Done.TheVariants.{Yes, No}
+use Rattle.answers.specs.declared.Refusal.{Refusal}
 use Rattle.model.specs.Machine.{State, region_at, order_of, mapped_of}
 use Rattle.model.specs.Answers.{Try, fine, and_then}
 use Rattle.model.specs.Lookup.{region_for}
@@ -32,9 +29,9 @@ module _ (q c : ℕ) where
   kept_then : (s : State) (t : Try) (f : State → Try) → Kept s q c t.state → ((u : State) → Sound u → Kept u q c (f u).state) → Kept s q c (and_then t f).state
   kept_then s t f a next = go t.answer t.state a
     where
-      go : (d : Done) (u : State) → Kept s q c u → Kept s q c (and_then (record { answer = d; state = u }) f).state
-      go Yes u b = let k = next u b.0 in (k.0, same_then b.1 k.1)
-      go (No r) u b = b
+      go : (d : Result ⊤ Refusal) (u : State) → Kept s q c u → Kept s q c (and_then (record { answer = d; state = u }) f).state
+      go (Ok tt) u b = let k = next u b.0 in (k.0, same_then b.1 k.1)
+      go (Err r) u b = b
 
   page_same : (s : State) → Sound s → (p t pg : ℕ) (w : Bool) → Home s.machine p t pg → Kept s q c (populate_page s p t pg w).state
   unfolding populate_page
@@ -49,12 +46,12 @@ module _ (q c : ℕ) where
   visit_same zero s sound p pg last w = (sound, same_refl s q c)
   visit_same (suc n) s sound p pg last w = go (ltb last pg) (region_for s.machine p (page_start pg)) refl (next_start s.machine p pg) (visit_same n)
     where
-      go : (b : Bool) (x : Found) → region_for s.machine p (page_start pg) ≡ x → (y : Found) → ((s : State) → Sound s → (p pg last : ℕ) (w : Bool) → Kept s q c (visit n s p pg last w).state)
-          → Kept s q c (elim b as (λ z. Try) [ true ↦ fine s | false ↦ elim x as (λ z. Try) [ At slot ↦ and_then (populate_page s p slot pg w) (λ t. visit n t p (pg + 1) last w) | Nothing ↦ elim y as (λ z. Try) [ At next ↦ visit n s p next last w | Nothing ↦ fine s ] ] ]).state
+      go : (b : Bool) (x : Option ℕ) → region_for s.machine p (page_start pg) ≡ x → (y : Option ℕ) → ((s : State) → Sound s → (p pg last : ℕ) (w : Bool) → Kept s q c (visit n s p pg last w).state)
+          → Kept s q c (elim b as (λ z. Try) [ true ↦ fine s | false ↦ elim x as (λ z. Try) [ Some slot ↦ and_then (populate_page s p slot pg w) (λ t. visit n t p (pg + 1) last w) | None ↦ elim y as (λ z. Try) [ Some next ↦ visit n s p next last w | None ↦ fine s ] ] ]).state
       go true x e y more = (sound, same_refl s q c)
-      go false (At t) e y more = kept_then s (populate_page s p t pg w) (λ u. visit n u p (pg + 1) last w) (page_same s sound p t pg w (home_at s.machine (sound_owing s sound) p pg t e)) (λ u a. more u a p (pg + 1) last w)
-      go false Nothing e (At next) more = more s sound p next last w
-      go false Nothing e Nothing more = (sound, same_refl s q c)
+      go false (Some t) e y more = kept_then s (populate_page s p t pg w) (λ u. visit n u p (pg + 1) last w) (page_same s sound p t pg w (home_at s.machine (sound_owing s sound) p pg t e)) (λ u a. more u a p (pg + 1) last w)
+      go false None e (Some next) more = more s sound p next last w
+      go false None e None more = (sound, same_refl s q c)
 
   core_populate_keeps : (s : State) → Sound s → (p a len : ℕ) (w : Bool) → Kept s q c (core_populate s p a len w).state
   unfolding core_populate

@@ -1,5 +1,5 @@
 -- A read fault that succeeds brings the view to the load; and everything that POSIX is asked for.
-use Rattle.std.specs.Prelude.{◌≡◌, ◌⊎◌, ◌≢◌, Bool, ◌&&◌, not, cond, length, get_or, eqb, ltb}
+use Rattle.std.specs.Prelude.{◌≡◌, ◌⊎◌, ◌≢◌, Bool, ◌&&◌, not, cond, length, get_or, eqb, ltb, Option, Some, None, Result, Ok, Err, ⊤}
 use Rattle.std.proofs.Math.Path.{refl}
 use Rattle.std.proofs.Common.{ap, sym, subst, ◌∙◌, inl, inr, true≢false, arith, eqb-true, eq-eqb, leb-false}
 use Rattle.std.proofs.Math.Bool.{true, false}
@@ -7,6 +7,7 @@ use Rattle.std.proofs.lemmas.Bool.{false≢true, eqb-false}
 use mathlib.Core.List.{List, [], ◌∷◌}
 use Prim.Native.Nat.{ℕ, ◌-◌, ◌*◌, ◌/◌, ◌%◌, ◌≤◌, ◌<◌}
 use Rattle.std.proofs.Math.Decide.{ℕ_discrete}
+use Rattle.laws.specs.ResultLaws.{err_not_ok, some_same}
 use Rattle.address.specs.declared.PhysFrame.{PhysFrame}
 use Rattle.address.specs.Flags.{read_only}
 use Rattle.address.specs.Bits.{bit}
@@ -14,21 +15,14 @@ use Rattle.address.specs.Canonical.{user}
 use Rattle.answers.specs.declared.Refusal.{Refusal}
 use Rattle.model.specs.declared.Region.{Region}
 use Rattle.model.specs.declared.Mapping.{Mapping}
-use Rattle.model.specs.declared.Found.TheVariants.{At}
-use Rattle.model.specs.declared.Translated.{Translated}
-use Rattle.model.specs.declared.Translated.TheVariants.{Mapped, NotMapped}
 use Rattle.model.specs.declared.Backed.{Backed}
 use Rattle.model.specs.declared.Backed.TheVariants.{ByEntry, ByRange, Unbacked}
 use Rattle.model.specs.declared.Way.{Way}
 use Rattle.model.specs.declared.Way.TheVariants.{Refuse, Already, Restore, Map, Copy, Fill}
-use Rattle.model.specs.declared.Done.{Done}
-use Rattle.model.specs.declared.Done.TheVariants.{Yes, No}
-use Rattle.model.specs.declared.Loaded.{Loaded}
 use Rattle.model.specs.Machine.{Machine, State, with_mapped, process_at, region_at, row_of, order_of, mapped_of, no_region}
 use Rattle.model.specs.MachineLaws.{mapped_put, mapped_length, order_mapped, Books, books_then, books_claim, books_re_entry, books_order}
 use Rattle.model.specs.Answers.{Try, fine, unless, first_of, leaving}
 use Rattle.model.specs.Lookup.{contains, is_shared, is_open}
-use Rattle.model.specs.LookupLaws.{same_slot}
 use Rattle.model.specs.Paging.{page_start, mapping, map_page, unmap_page, translate, is_writable, is_user, all_four}
 use Rattle.model.specs.Backing.{backing, claim}
 use Rattle.model.specs.Fault.{handle_fault, go_way, own_frame, re_entry, fault_way, private_way, shared_way, backed_way, translated_way, way_refusals, no_room, is_mapped}
@@ -47,7 +41,6 @@ use Rattle.keeping.specs.OwingOfSound.{sound_owing}
 use Rattle.keeping.specs.OwingLaws.{home_one, listed_open}
 use Rattle.keeping.specs.FaultKept.{fault_kept}
 use Rattle.isolation.specs.ViewLaws.{Home, home_at}
-use Rattle.isolation.specs.Undisturbed.{not_done}
 use Rattle.isolation.specs.StoreStays.{translated}
 use Rattle.isolation.specs.LoadShows.{guarded_is, guarded_done, granted_view, load_is_view, private_store, shared_store}
 use Rattle.isolation.specs.FaultStays.{fault_call, fault_keeps_views}
@@ -55,12 +48,12 @@ use Rattle.isolation.specs.CloneStays.{fork_inherits, fork_keeps_others, clone_i
 
 -- ---- a page that is mapped
 
-not_mapped : (pg : ℕ) (l : List Mapping) → translate l pg ≡ NotMapped → (x : Mapping) → In x l → x.page.0 ≢ pg
+not_mapped : (pg : ℕ) (l : List Mapping) → translate l pg ≡ None → (x : Mapping) → In x l → x.page.0 ≢ pg
 unfolding translate
 not_mapped pg [] e x k = absurd k
 not_mapped pg (y ∷ l) e x k = go (eqb y.page.0 pg) refl e k (not_mapped pg l)
   where
-    go : (b : Bool) → eqb y.page.0 pg ≡ b → cond b (Mapped y) (translate l pg) ≡ NotMapped → In x (y ∷ l) → (translate l pg ≡ NotMapped → (x : Mapping) → In x l → x.page.0 ≢ pg) → x.page.0 ≢ pg
+    go : (b : Bool) → eqb y.page.0 pg ≡ b → cond b (Some y) (translate l pg) ≡ None → In x (y ∷ l) → (translate l pg ≡ None → (x : Mapping) → In x l → x.page.0 ≢ pg) → x.page.0 ≢ pg
     go true p q i more = let z : ◌≡◌ {A = ℕ} 0 1 = cc in absurd (omega arith)
     go false p q (inl i) more = λ z. eqb-false y.page.0 pg p (ap (λ (w : Mapping). w.page.0) (sym i) ∙ z)
     go false p q (inr i) more = more q x i
@@ -119,13 +112,13 @@ module _ (s : State) (sound : Sound s) (p a slot : ℕ) (home : Home s.machine p
               side (inl w) = ap is_user (w ∙ ap (λ (r : Region). r.flags.0) region) ∙ q.1
               side (inr w) = ap is_user (w ∙ ap (λ (r : Region). read_only r.flags.0) region) ∙ user_still (region_at m p slot).flags.0 q.1
 
-      go : (t : Translated) → translate (mapped_of m p) (a / 4096) ≡ t → granted t false ≡ true
-      go NotMapped q = absurd (not_mapped (a / 4096) (mapped_of m p) q x i e)
-      go (Mapped y) q = let k = translated (mapped_of m p) (a / 4096) y q in ap (λ (c : Bool). c && true) (has_user y (o.mapped p home.low y k.0) k.1)
+      go : (t : Option Mapping) → translate (mapped_of m p) (a / 4096) ≡ t → granted t false ≡ true
+      go None q = absurd (not_mapped (a / 4096) (mapped_of m p) q x i e)
+      go (Some y) q = let k = translated (mapped_of m p) (a / 4096) y q in ap (λ (c : Bool). c && true) (has_user y (o.mapped p home.low y k.0) k.1)
 
 -- ---- the ways of a read
 
-abbrev Reads : Translated → Way → Type 0
+abbrev Reads : Option Mapping → Way → Type 0
 Reads t (Refuse x) = Unit {0}
 Reads t Already = is_mapped t ≡ true
 Reads t Restore = ⊥
@@ -133,29 +126,29 @@ Reads t (Map f fl) = Unit {0}
 Reads t (Copy f) = ⊥
 Reads t Fill = Unit {0}
 
-pick : (t : Translated) (x y : Way) (c : Bool) → Reads t x → Reads t y → Reads t (cond c x y)
+pick : (t : Option Mapping) (x y : Way) (c : Bool) → Reads t x → Reads t y → Reads t (cond c x y)
 pick t x y true f g = f
 pick t x y false f g = g
 
-backed_reads : (r : Region) (f : PhysFrame) (n : ℕ) → Reads NotMapped (backed_way r f n false)
-backed_reads r f n = pick NotMapped _ _ (is_writable r.flags.0) (pick NotMapped _ _ (eqb n 1) tt tt) tt
+backed_reads : (r : Region) (f : PhysFrame) (n : ℕ) → Reads None (backed_way r f n false)
+backed_reads r f n = pick None _ _ (is_writable r.flags.0) (pick None _ _ (eqb n 1) tt tt) tt
 
-translated_reads : (r : Region) (t : Translated) (b : Backed) → Reads t (translated_way r t b false)
-translated_reads r (Mapped x) b = refl
-translated_reads r NotMapped (ByEntry i f n) = backed_reads r f n
-translated_reads r NotMapped (ByRange f n) = backed_reads r f n
-translated_reads r NotMapped Unbacked = pick NotMapped _ _ (is_writable r.flags.0) tt tt
+translated_reads : (r : Region) (t : Option Mapping) (b : Backed) → Reads t (translated_way r t b false)
+translated_reads r (Some x) b = refl
+translated_reads r None (ByEntry i f n) = backed_reads r f n
+translated_reads r None (ByRange f n) = backed_reads r f n
+translated_reads r None Unbacked = pick None _ _ (is_writable r.flags.0) tt tt
 
-private_reads : (r : Region) (t : Translated) (b : Backed) → Reads t (private_way r t b false)
+private_reads : (r : Region) (t : Option Mapping) (b : Backed) → Reads t (private_way r t b false)
 unfolding private_way
 private_reads r t b = pick t _ _ (is_user r.flags.0) (translated_reads r t b) tt
 
-shared_reads : (t : Translated) (b : Backed) → Reads t (shared_way t b)
+shared_reads : (t : Option Mapping) (b : Backed) → Reads t (shared_way t b)
 unfolding shared_way
-shared_reads (Mapped x) b = refl
-shared_reads NotMapped (ByEntry i f n) = tt
-shared_reads NotMapped (ByRange f n) = tt
-shared_reads NotMapped Unbacked = tt
+shared_reads (Some x) b = refl
+shared_reads None (ByEntry i f n) = tt
+shared_reads None (ByRange f n) = tt
+shared_reads None Unbacked = tt
 
 way_reads : (m : Machine) (p s page : ℕ) → Reads (translate (mapped_of m p) page) (fault_way m p s page false)
 unfolding fault_way
@@ -199,9 +192,9 @@ module _ (s : State) (sound : Sound s) (p t pg : ℕ) (low : p < 8) where
   brings (Refuse x) k e = absurd (true≢false e.0)
   brings Already k e = go (translate (mapped_of machine p) pg) refl k
     where
-      go : (x : Translated) → translate (mapped_of machine p) pg ≡ x → is_mapped x ≡ true → Brought machine machine p pg
-      go NotMapped q z = absurd (false≢true z)
-      go (Mapped x) q z = let i = translated (mapped_of machine p) pg x q in record { regions = refl; order = refl; at = x; inside = i.0; page = i.1 }
+      go : (x : Option Mapping) → translate (mapped_of machine p) pg ≡ x → is_mapped x ≡ true → Brought machine machine p pg
+      go None q z = absurd (false≢true z)
+      go (Some x) q z = let i = translated (mapped_of machine p) pg x q in record { regions = refl; order = refl; at = x; inside = i.0; page = i.1 }
   brings Restore k e = absurd k
   brings (Map f fl) k e =
       let x : Mapping = mapping pg f.0 fl.0 in
@@ -221,32 +214,32 @@ module _ (s : State) (sound : Sound s) (p t pg : ℕ) (low : p < 8) where
       let c = length_map bare x in
       brought machine mid own p low books (map_page bare x) (omega arith) x pg (map_here bare x) refl
 
-  fault_brings : (handle_fault s p t pg false).answer ≡ Yes → Brought machine (handle_fault s p t pg false).state.machine p pg
+  fault_brings : (handle_fault s p t pg false).answer ≡ Ok tt → Brought machine (handle_fault s p t pg false).state.machine p pg
   unfolding handle_fault
   fault_brings e = go (first_of (way_refusals machine p t pg way)) refl e
     where
       way : Way
       way = fault_way machine p t pg false
 
-      leaves : Done → Try
+      leaves : Result ⊤ Refusal → Try
       leaves d = unless d s (fine (go_way s p t pg way))
 
-      go : (d : Done) → first_of (way_refusals machine p t pg way) ≡ d → (leaves d).answer ≡ Yes → Brought machine (leaves d).state.machine p pg
-      go Yes q y = brings way (way_reads machine p t pg) (passed _ q)
-      go (No x) q y = absurd (not_done y)
+      go : (d : Result ⊤ Refusal) → first_of (way_refusals machine p t pg way) ≡ d → (leaves d).answer ≡ Ok tt → Brought machine (leaves d).state.machine p pg
+      go (Ok tt) q y = brings way (way_reads machine p t pg) (passed _ q)
+      go (Err x) q y = absurd (err_not_ok y)
 
 -- ---- the load after it
 
-pub first_yes : (l : List (Bool × Refusal)) → Passed l → first_of l ≡ Yes
+pub first_yes : (l : List (Bool × Refusal)) → Passed l → first_of l ≡ Ok tt
 unfolding first_of
 first_yes [] k = refl
 first_yes (t ∷ l) k = rw k.0 (first_yes l k.1)
 
-load_granted : (s : State) → Sound s → (p a : ℕ) → not (is_open s.machine p) ≡ false → not (user a) ≡ false → granted (page_at s.machine p a) false ≡ true → (calls.load s p a).answer ≡ Loaded.Byte (loaded s p a)
+load_granted : (s : State) → Sound s → (p a : ℕ) → not (is_open s.machine p) ≡ false → not (user a) ≡ false → granted (page_at s.machine p a) false ≡ true → (calls.load s p a).answer ≡ Ok (loaded s p a)
 unfolding calls.load access_refusals
 load_granted s sound p a x y z =
-    ap (λ t. t.answer) (guarded_is s sound Loaded.No (access_refusals s p a false) (leaving (Loaded.Byte (loaded s p a)) s))
-    ∙ ap (λ (d : Done). (calls.decided d Loaded.No s (leaving (Loaded.Byte (loaded s p a)) s)).answer) (first_yes (access_refusals s p a false) (x, (y, (ap not z, tt))))
+    ap (λ t. t.answer) (guarded_is s sound Err (access_refusals s p a false) (leaving (Ok (loaded s p a)) s))
+    ∙ ap (λ (d : Result ⊤ Refusal). (calls.decided d Err s (leaving (Ok (loaded s p a)) s)).answer) (first_yes (access_refusals s p a false) (x, (y, (ap not z, tt))))
 
 fault_sound : (s : State) → Sound s → (p a : ℕ) → Sound (calls.fault s p a false).state
 unfolding step call
@@ -257,14 +250,14 @@ record Faulted (s after : State) (p a : ℕ) : Type 0 where
   address : not (user a) ≡ false
   brought : Brought s.machine after.machine p (a / 4096)
 
-faulted : (s : State) → Sound s → (p a slot : ℕ) → home_slot s p a ≡ At slot → (calls.fault s p a false).answer ≡ Yes → Faulted s (calls.fault s p a false).state p a
+faulted : (s : State) → Sound s → (p a slot : ℕ) → home_slot s p a ≡ Some slot → (calls.fault s p a false).answer ≡ Ok tt → Faulted s (calls.fault s p a false).state p a
 unfolding calls.fault region_refusals
 faulted s sound p a slot home done =
     guarded_done s sound (region_refusals s p a) (handle_fault s p (slot_at s p a) (a / 4096) false) done (λ x. Faulted s x p a)
     (λ k y. record { address = k.1.0; brought = fault_brings s sound p (slot_at s p a) (a / 4096) (home_at s.machine (sound_owing s sound) p (a / 4096) slot home).low y })
 
 -- so its page is granted, and its load answers the view
-module _ (s after : State) (sound : Sound s) (sound' : Sound after) (p a b slot : ℕ) (home : home_slot s p a ≡ At slot) (readable : Readable (region_at s.machine p slot)) (k : Faulted s after p a) where
+module _ (s after : State) (sound : Sound s) (sound' : Sound after) (p a b slot : ℕ) (home : home_slot s p a ≡ Some slot) (readable : Readable (region_at s.machine p slot)) (k : Faulted s after p a) where
   row : region_at after.machine p slot ≡ region_at s.machine p slot
   row = ap (λ l. get_or l (row_of p slot) no_region) k.brought.regions
 
@@ -273,11 +266,11 @@ module _ (s after : State) (sound : Sound s) (sound' : Sound after) (p a b slot 
       let h = home_at s.machine (sound_owing s sound) p (a / 4096) slot home in
       record { low = h.low; listed = subst (λ l. In slot l) (sym k.brought.order) h.listed; inside = ap (λ (r : Region). contains r (page_start (a / 4096))) row ∙ h.inside }
 
-  loads_view : view after p a ≡ At b → (calls.load after p a).answer ≡ Loaded.Byte b
+  loads_view : view after p a ≡ Some b → (calls.load after p a).answer ≡ Ok b
   loads_view seen =
       let opened = listed_open nothing after.machine (sound_owing after sound') p slot there.listed in
       let grant = mapped_granted after sound' p a slot there (subst Readable (sym row) readable) k.brought.at k.brought.inside k.brought.page in
-      load_granted after sound' p a (ap not (eq-eqb (process_at after.machine p).opened 1 opened)) k.address grant ∙ ap Loaded.Byte (same_slot (sym (granted_view after sound' p a false grant) ∙ seen))
+      load_granted after sound' p a (ap not (eq-eqb (process_at after.machine p).opened 1 opened)) k.address grant ∙ ap Ok (some_same (sym (granted_view after sound' p a false grant) ∙ seen))
 
 pub fault_shows : FaultShowsView
 fault_shows s p a b slot sound home readable seen done =

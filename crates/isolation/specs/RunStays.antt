@@ -1,14 +1,10 @@
 -- Over runs of calls: what a process sees in a private page stays until it touches it, and a clone keeps the bytes it was given.
-use Rattle.std.specs.Prelude.{◌≡◌, refl, Bool, true, false, ◌&&◌, not, List, [], ◌∷◌, ℕ, eqb}
+use Rattle.std.specs.Prelude.{◌≡◌, refl, Bool, true, false, ◌&&◌, not, List, [], ◌∷◌, ℕ, eqb, Some, Result, Ok, Err, ⊤}
 use Rattle.std.proofs.Common.{sym, subst, ◌∙◌, true≢false}
 use Rattle.std.proofs.lemmas.Bool.{false≢true}
 use Rattle.answers.specs.declared.Refusal.{Refusal}
 use Rattle.answers.specs.declared.Refusal.TheVariants.{BadTable}
 use Rattle.model.specs.declared.File.{File}
-use Rattle.model.specs.declared.Found.TheVariants.{At}
-use Rattle.model.specs.declared.Done.{Done}
-use Rattle.model.specs.declared.Done.TheVariants.{Yes, No}
-use Rattle.model.specs.declared.Loaded.{Loaded}
 use Rattle.model.specs.Machine.{State}
 use Rattle.model.specs.Answers.{of_done, fine, first_of}
 use Rattle.model.specs.Refusals.{start_refusals}
@@ -64,11 +60,11 @@ call_stays (store p a b) = store_stays p a b
 
 -- ---- a refused call changes nothing
 
-decided_refused : (s u : State) (d : Done) → eqb (of_done (calls.decided d No s (fine u)).answer).number 0 ≡ false → (calls.decided d No s (fine u)).state ≡ s
-decided_refused s u Yes e = absurd (true≢false e)
-decided_refused s u (No r) e = refl
+decided_refused : (s u : State) (d : Result ⊤ Refusal) → eqb (of_done (calls.decided d Err s (fine u)).answer).number 0 ≡ false → (calls.decided d Err s (fine u)).state ≡ s
+decided_refused s u (Ok tt) e = absurd (true≢false e)
+decided_refused s u (Err r) e = refl
 
-guarded_refused : (s u : State) (tests : List (Bool × Refusal)) → eqb (of_done (calls.guarded s No tests (fine u)).answer).number 0 ≡ false → (calls.guarded s No tests (fine u)).state ≡ s
+guarded_refused : (s u : State) (tests : List (Bool × Refusal)) → eqb (of_done (calls.guarded s Err tests (fine u)).answer).number 0 ≡ false → (calls.guarded s Err tests (fine u)).state ≡ s
 unfolding calls.guarded
 guarded_refused s u tests e = decided_refused s u (first_of ((not (soundb s), BadTable) ∷ tests)) e
 
@@ -138,7 +134,7 @@ pub clone_keeps_bytes : (s : State) → Sound s → CloneKeepsBytes s
 clone_keeps_bytes s rules p a q c slot done here home private = inherits s (calls.clone_region s p a q).state (clone_sound s rules p a q) p q c private (clone_region_shown s rules p a q c slot done here home).inherited
 
 -- what is loaded is what is seen
-loads_seen : (s after : State) → Sound after → (p q c b : ℕ) → SeenAs s after p q c → (calls.load after q c).answer ≡ Loaded.Byte b → view s p c ≡ At b
+loads_seen : (s after : State) → Sound after → (p q c b : ℕ) → SeenAs s after p q c → (calls.load after q c).answer ≡ Ok b → view s p c ≡ Some b
 loads_seen s after rules p q c b k loaded = sym k.seen ∙ load_is_view after q c b rules loaded
 
 pub clone_loads : (s : State) → Sound s → CloneLoads s

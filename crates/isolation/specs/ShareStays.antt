@@ -1,5 +1,5 @@
 -- A clone that shares its backings: everyone sees what he saw, and the clone what the source shows.
-use Rattle.std.specs.Prelude.{◌≡◌, ◌⊎◌, ◌≢◌, Bool, ◌&&◌, not, cond, List, [], ◌∷◌, ◌++◌, ℕ, ◌+◌, ◌-◌, ◌/◌, ◌≤◌, ◌<◌, length, get_or, set, eqb}
+use Rattle.std.specs.Prelude.{◌≡◌, ◌⊎◌, ◌≢◌, Bool, ◌&&◌, not, cond, List, [], ◌∷◌, ◌++◌, ℕ, ◌+◌, ◌-◌, ◌/◌, ◌≤◌, ◌<◌, length, get_or, set, eqb, Some}
 use Rattle.std.proofs.Math.Path.{refl, ap}
 use Rattle.std.proofs.Common.{sym, subst, ◌∙◌, inl, inr, true≢false, arith, get_or-set_same, eqb-true}
 use Rattle.std.proofs.Math.Bool.{true, false}
@@ -8,8 +8,6 @@ use Rattle.model.specs.declared.Region.{Region}
 use Rattle.model.specs.declared.Mapping.{Mapping}
 use Rattle.model.specs.declared.Entry.{Entry}
 use Rattle.model.specs.declared.Backing.{Backing}
-use Rattle.model.specs.declared.Found.TheVariants.{At}
-use Rattle.model.specs.declared.Translated.TheVariants.{Mapped}
 use Rattle.laws.specs.Lists.{each, count}
 use Rattle.model.specs.Machine.{Machine, State, with_machine, with_mapped, with_order, process_at, region_at, row_of, order_of, mapped_of, no_region, no_entry, no_backing}
 use Rattle.model.specs.MachineLaws.{Books, books_then, books_order, books_mapped, order_mapped, mapped_put}
@@ -97,10 +95,10 @@ translate_remap f g pg (x ∷ l) other = go (eqb x.page.0 pg) refl (f x) refl (t
     again : Bool → Mapping
     again b = cond b (mapping x.page.0 x.frame.0 (g x)) x
 
-    go : (a : Bool) → eqb x.page.0 pg ≡ a → (b : Bool) → f x ≡ b → translate (remap_where f g l) pg ≡ translate l pg → cond (eqb (again b).page.0 pg) (Mapped (again b)) (translate (remap_where f g l) pg) ≡ cond a (Mapped x) (translate l pg)
-    go a e false h more = λ i. cond (e i) (Mapped x) (more i)
+    go : (a : Bool) → eqb x.page.0 pg ≡ a → (b : Bool) → f x ≡ b → translate (remap_where f g l) pg ≡ translate l pg → cond (eqb (again b).page.0 pg) (Some (again b)) (translate (remap_where f g l) pg) ≡ cond a (Some x) (translate l pg)
+    go a e false h more = λ i. cond (e i) (Some x) (more i)
     go true e true h more = absurd (true≢false (sym h ∙ other x (eqb-true x.page.0 pg e)))
-    go false e true h more = λ i. cond (e i) (Mapped (again true)) (more i)
+    go false e true h more = λ i. cond (e i) (Some (again true)) (more i)
 
 -- ---- the clone
 
@@ -310,7 +308,7 @@ module _ (s : State) (sound : Sound s) (p t q : ℕ) (listed : In t (order_of s.
           let owing = sharing.ready_owing nothing m o p t q listed opened free clear b e in
           ap (λ (y : Machine). mapped_of y p) (added_is b e) ∙ add_mapped _ (ready b) owing q (new_region b e).opened (new_region b e).slot (shared_row r) p ∙ ready_mapped b
 
-  pub share_rights : (c v : ℕ) → home_slot s p c ≡ At v → v ≢ t → page_at n p c ≡ page_at m p c
+  pub share_rights : (c v : ℕ) → home_slot s p c ≡ Some v → v ≢ t → page_at n p c ≡ page_at m p c
   share_rights c v home other = ap (λ l. translate l (c / 4096)) n_mapped ∙ translate_remap which less (c / 4096) (mapped_of m p) apart
     where
       here : Home m p v (c / 4096)
@@ -348,11 +346,11 @@ module _ (s : State) (sound : Sound s) (p t q : ℕ) (listed : In t (order_of s.
             let own = e.owner in
             no_entry_else m o f lone i e.at taken frame (λ y. other (ap (λ (j : ℕ). (entry_at m j).owner) y ∙ own)) (λ y. omega arith) (e.frame ∙ z)
 
-  module _ (c : ℕ) (home : home_slot s p c ≡ At t) where
-    there : home_slot (with_machine s n) q c ≡ At u
+  module _ (c : ℕ) (home : home_slot s p c ≡ Some t) where
+    there : home_slot (with_machine s n) q c ≡ Some u
     there = at_home n n_owing q (c / 4096) u (record { low = q_low; listed = own; inside = ap (λ (x : Region). contains x (page_start (c / 4096))) new_row ∙ (home_at m o p (c / 4096) t home).inside })
 
-    pub share_home : home_slot (with_machine s n) q c ≡ At u
+    pub share_home : home_slot (with_machine s n) q c ≡ Some u
     share_home = there
 
     pub share_inherited : Inherited s (with_machine s n) p q c
@@ -372,5 +370,5 @@ module _ (s : State) (sound : Sound s) (p t q : ℕ) (listed : In t (order_of s.
     eager = λ e. absurd (fork e);
   }
     where
-      shown : (c : ℕ) → home_slot s p c ≡ At t → Shown s (with_machine s n) p q c
+      shown : (c : ℕ) → home_slot s p c ≡ Some t → Shown s (with_machine s n) p q c
       shown c h = record { inherited = share_inherited c h; slot = u; home = share_home c h }

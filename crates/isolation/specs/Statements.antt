@@ -1,14 +1,10 @@
 -- Demand 3, the statements that the customer signs for: each speaks of one state, `Guarantee` collects them, and `Demand3Whole` says it of every state that
 -- calls reach from an empty machine. What a process sees (`view`, `homeSlot`, `PrivateAt`) is in model: Posix. The proofs are in the other rooms.
-use Rattle.std.specs.Prelude.{◌≡◌, ◌≢◌, Bool, true, false, ◌&&◌, List, [], ◌∷◌, ℕ, ◌+◌, ◌/◌, ◌≤◌, ◌<◌, eqb}
+use Rattle.std.specs.Prelude.{◌≡◌, ◌≢◌, Bool, true, false, ◌&&◌, List, [], ◌∷◌, ℕ, ◌+◌, ◌/◌, ◌≤◌, ◌<◌, eqb, Option, Some, None, Ok}
 use Rattle.address.specs.declared.PhysFrame.{PhysFrame}
 use Rattle.model.specs.declared.Mapping.{Mapping}
 use Rattle.model.specs.declared.File.{File}
-use Rattle.model.specs.declared.Found.{Found}
-use Rattle.model.specs.declared.Found.TheVariants.{At, Nothing}
 use Rattle.model.specs.declared.Backed.TheVariants.{ByEntry}
-use Rattle.model.specs.declared.Done.TheVariants.{Yes}
-use Rattle.model.specs.declared.Loaded.{Loaded}
 use Rattle.model.specs.Machine.{Machine, State, region_at, mapped_of, no_mapping}
 use Rattle.model.specs.Lookup.{contains, region_for}
 use Rattle.model.specs.Paging.{page_start, is_writable}
@@ -27,13 +23,13 @@ use Rattle.model.specs.Posix.{view, home_slot, frame_at, PrivateAt, Readable}
 
 -- no page of any region, attached or detached, of any process has frame f, save page pg of the region in slot `slot` of process p
 abbrev pub Alone : Machine → (p slot pg f : ℕ) → Type 0
-Alone m p slot pg f = (r other page : ℕ) → other < 64 → contains (region_at m r other) (page_start page) ≡ true → frame_by (backing m r other page) ≡ At f → (r ≡ p) × ((other ≡ slot) × (page ≡ pg))
+Alone m p slot pg f = (r other page : ℕ) → other < 64 → contains (region_at m r other) (page_start page) ≡ true → frame_by (backing m r other page) ≡ Some f → (r ≡ p) × ((other ≡ slot) × (page ≡ pg))
 
 -- a mapped page lies in one attached region, and its frame is that region's; if it is private and writable its frame has one holder, and is no other page's
 pub record MappedRight (m : Machine) (p : ℕ) (x : Mapping) : Type 0 where
   pub slot : ℕ
-  pub home : home_of m p x ≡ At slot
-  pub frame : frame_by (backing m p slot x.page.0) ≡ At x.frame.0
+  pub home : home_of m p x ≡ Some slot
+  pub frame : frame_by (backing m p slot x.page.0) ≡ Some x.frame.0
   pub lone : (region_at m p slot).kind ≢ 3 → is_writable x.flags.0 ≡ true → (holders_by (backing m p slot x.page.0) ≡ 1) × Alone m p slot x.page.0 x.frame.0
 
 pub record Demand3 (m : Machine) : Type 0 where
@@ -50,7 +46,7 @@ pub record Demand3 (m : Machine) : Type 0 where
 abbrev pub OneSideWritable : Machine → Type 0
 OneSideWritable m =
     (p q slot : ℕ)
-    → Rows no_mapping (mapped_of m p) (λ i x. home_of m p x ≡ At slot → (region_at m p slot).kind ≢ 3 → is_writable x.flags.0 ≡ true
+    → Rows no_mapping (mapped_of m p) (λ i x. home_of m p x ≡ Some slot → (region_at m p slot).kind ≢ 3 → is_writable x.flags.0 ≡ true
     → Rows no_mapping (mapped_of m q) (λ j y. y.frame.0 ≡ x.frame.0 → (q ≡ p) × (y.page.0 ≡ x.page.0)))
 
 -- ---- "Hence no store by one process changes a byte another can load from a private page."
@@ -63,11 +59,11 @@ StoresStayHome s =
 
 -- ---- ".. until the clone's own process stores there or gives up that region or, once it is split, the part with that page"
 
-abbrev pub same_slot : Found → Found → Bool
-same_slot (At i) (At j) = eqb i j
-same_slot (At i) Nothing = false
-same_slot Nothing (At j) = false
-same_slot Nothing Nothing = false
+abbrev pub same_slot : Option ℕ → Option ℕ → Bool
+same_slot (Some i) (Some j) = eqb i j
+same_slot (Some i) None = false
+same_slot None (Some j) = false
+same_slot None None = false
 
 -- which calls may change what process q sees at address c: its own store to that very byte; its own removal of the region, or of the part, that has the
 -- page now; its own clear and close; and a start, which begins a new sequence. No other call, and none of another process
@@ -131,40 +127,40 @@ FilesStay s = (l : List Call) → (run l s).bytes ≡ s.bytes
 -- byte by byte, of a page that is not backed too
 abbrev pub CloneKeepsBytes : State → Type 0
 CloneKeepsBytes s =
-    (p a q c slot : ℕ) → (calls.clone_region s p a q).answer ≡ Yes → region_for s.machine p a ≡ At slot → home_slot s p c ≡ At slot → PrivateAt s p c
+    (p a q c slot : ℕ) → (calls.clone_region s p a q).answer ≡ Ok tt → region_for s.machine p a ≡ Some slot → home_slot s p c ≡ Some slot → PrivateAt s p c
     → (l : List Call) → Untouched q c l (calls.clone_region s p a q).state → SeenAs s (run l (calls.clone_region s p a q).state) p q c
 
 -- .. so a byte that the clone's process loads there is the one that the source showed
 abbrev pub CloneLoads : State → Type 0
 CloneLoads s =
-    (p a q c slot b : ℕ) → (calls.clone_region s p a q).answer ≡ Yes → region_for s.machine p a ≡ At slot → home_slot s p c ≡ At slot → PrivateAt s p c
+    (p a q c slot b : ℕ) → (calls.clone_region s p a q).answer ≡ Ok tt → region_for s.machine p a ≡ Some slot → home_slot s p c ≡ Some slot → PrivateAt s p c
     → (l : List Call) → Untouched q c l (calls.clone_region s p a q).state
-    → (calls.load (run l (calls.clone_region s p a q).state) q c).answer ≡ Loaded.Byte b → view s p c ≡ At b
+    → (calls.load (run l (calls.clone_region s p a q).state) q c).answer ≡ Ok b → view s p c ≡ Some b
 
 -- the same where the region is cloned with its whole process, which leaves out what is one thread's own
 abbrev pub ForkKeepsBytes : State → Type 0
 ForkKeepsBytes s =
-    (p q c slot : ℕ) → (calls.clone s p q).answer ≡ Yes → home_slot s p c ≡ At slot → (region_at s.machine p slot).per_thread ≡ 0 → PrivateAt s p c
+    (p q c slot : ℕ) → (calls.clone s p q).answer ≡ Ok tt → home_slot s p c ≡ Some slot → (region_at s.machine p slot).per_thread ≡ 0 → PrivateAt s p c
     → (l : List Call) → Untouched q c l (calls.clone s p q).state → SeenAs s (run l (calls.clone s p q).state) p q c
 
 -- .. and what is loaded there
 abbrev pub ForkLoads : State → Type 0
 ForkLoads s =
-    (p q c slot b : ℕ) → (calls.clone s p q).answer ≡ Yes → home_slot s p c ≡ At slot → (region_at s.machine p slot).per_thread ≡ 0 → PrivateAt s p c
-    → (l : List Call) → Untouched q c l (calls.clone s p q).state → (calls.load (run l (calls.clone s p q).state) q c).answer ≡ Loaded.Byte b → view s p c ≡ At b
+    (p q c slot b : ℕ) → (calls.clone s p q).answer ≡ Ok tt → home_slot s p c ≡ Some slot → (region_at s.machine p slot).per_thread ≡ 0 → PrivateAt s p c
+    → (l : List Call) → Untouched q c l (calls.clone s p q).state → (calls.load (run l (calls.clone s p q).state) q c).answer ≡ Ok b → view s p c ≡ Some b
 
 -- .. and where the process's clone is refused half-way, of the regions that were cloned before: where q has a home that it had not
 abbrev pub ForkPartKeepsBytes : State → Type 0
 ForkPartKeepsBytes s =
-    (p q c slot : ℕ) → p ≢ q → home_slot s q c ≡ Nothing → home_slot (calls.clone s p q).state q c ≡ At slot → PrivateAt s p c
+    (p q c slot : ℕ) → p ≢ q → home_slot s q c ≡ None → home_slot (calls.clone s p q).state q c ≡ Some slot → PrivateAt s p c
     → (l : List Call) → Untouched q c l (calls.clone s p q).state → SeenAs s (run l (calls.clone s p q).state) p q c
 
 -- so that these are no empty words: a page that is backed can be read. Where its region gives user access, or is Shared, and fewer than 128 pages are
 -- mapped, a read fault succeeds, and the load after it answers what is seen
 abbrev pub BackedReads : State → Type 0
 BackedReads s =
-    (p a b slot f : ℕ) → region_for s.machine p a ≡ At slot → Readable (region_at s.machine p slot) → frame_at s p a ≡ At f → no_room s.machine p ≡ false → view s p a ≡ At b
-    → ((calls.fault s p a false).answer ≡ Yes) × ((calls.load (calls.fault s p a false).state p a).answer ≡ Loaded.Byte b)
+    (p a b slot f : ℕ) → region_for s.machine p a ≡ Some slot → Readable (region_at s.machine p slot) → frame_at s p a ≡ Some f → no_room s.machine p ≡ false → view s p a ≡ Some b
+    → ((calls.fault s p a false).answer ≡ Ok tt) × ((calls.load (calls.fault s p a false).state p a).answer ≡ Ok b)
 
 -- ---- RULES K3: a CopyEager region has each of its backed pages copied
 
@@ -178,32 +174,32 @@ pub record OwnPage (m : Machine) (q slot pg : ℕ) : Type 0 where
 
 pub record OwnsAt (s : State) (q c : ℕ) : Type 0 where
   pub slot : ℕ
-  pub home : home_slot s q c ≡ At slot
+  pub home : home_slot s q c ≡ Some slot
   pub own : OwnPage s.machine q slot (c / 4096)
 
 -- what a clone of the CopyEager region in slot `slot` of p leaves: no mapping of any process is another, so the source's keep their rights; each page that
 -- was backed is the clone's own; no other is backed in the clone
 pub record EagerOwns (s after : State) (p slot q : ℕ) : Type 0 where
   pub rights : (r : ℕ) → mapped_of after.machine r ≡ mapped_of s.machine r
-  pub owns : (c f : ℕ) → home_slot s p c ≡ At slot → frame_at s p c ≡ At f → OwnsAt after q c
-  pub bare : (c : ℕ) → home_slot s p c ≡ At slot → frame_at s p c ≡ Nothing → frame_at after q c ≡ Nothing
+  pub owns : (c f : ℕ) → home_slot s p c ≡ Some slot → frame_at s p c ≡ Some f → OwnsAt after q c
+  pub bare : (c : ℕ) → home_slot s p c ≡ Some slot → frame_at s p c ≡ None → frame_at after q c ≡ None
 
 -- fork is 1 where the region is CopyEager; it is then Private or FileBacked (R6)
 abbrev pub EagerCloneOwns : State → Type 0
 EagerCloneOwns s =
-    (p a q slot : ℕ) → (calls.clone_region s p a q).answer ≡ Yes → region_for s.machine p a ≡ At slot → (region_at s.machine p slot).fork ≡ 1
+    (p a q slot : ℕ) → (calls.clone_region s p a q).answer ≡ Ok tt → region_for s.machine p a ≡ Some slot → (region_at s.machine p slot).fork ≡ 1
     → EagerOwns s (calls.clone_region s p a q).state p slot q
 
 -- the same where it is cloned with its whole process: the source's page is mapped as it was, whatever the answer, and if all is cloned the page is the
 -- clone's own at the end
 pub record EagerForked (s after : State) (p slot q c : ℕ) (done : Type 0) : Type 0 where
   pub rights : page_at after.machine p c ≡ page_at s.machine p c
-  pub owns : done → (region_at s.machine p slot).per_thread ≡ 0 → (f : ℕ) → frame_at s p c ≡ At f → OwnsAt after q c
+  pub owns : done → (region_at s.machine p slot).per_thread ≡ 0 → (f : ℕ) → frame_at s p c ≡ Some f → OwnsAt after q c
 
 abbrev pub EagerForkOwns : State → Type 0
 EagerForkOwns s =
-    (p q c slot : ℕ) → home_slot s p c ≡ At slot → (region_at s.machine p slot).fork ≡ 1
-    → EagerForked s (calls.clone s p q).state p slot q c ((calls.clone s p q).answer ≡ Yes)
+    (p q c slot : ℕ) → home_slot s p c ≡ Some slot → (region_at s.machine p slot).fork ≡ 1
+    → EagerForked s (calls.clone s p q).state p slot q c ((calls.clone s p q).answer ≡ Ok tt)
 
 -- ---- the whole
 
@@ -234,4 +230,4 @@ pub record Guarantee (s : State) : Type 0 where
 
 -- RULES D3: from an empty machine, after any sequence of calls, refused ones included: whatever memory and files are lent, if start accepts them
 abbrev pub Demand3Whole : Type 0
-Demand3Whole = (lent : State) (files : List File) → (calls.start lent files).answer ≡ Yes → (l : List Call) → Guarantee (run l (calls.start lent files).state)
+Demand3Whole = (lent : State) (files : List File) → (calls.start lent files).answer ≡ Ok tt → (l : List Call) → Guarantee (run l (calls.start lent files).state)

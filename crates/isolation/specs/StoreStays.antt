@@ -1,13 +1,9 @@
 -- A store changes no byte that another process sees in a private page, and none but its own in its own pages.
-use Rattle.std.specs.Prelude.{◌≡◌, refl, ◌⊎◌, ◌≢◌, Bool, true, false, ◌&&◌, ◌||◌, not, cond, List, [], ◌∷◌, ℕ, ◌+◌, ◌*◌, ◌/◌, ◌%◌, ◌<◌, set, eqb}
+use Rattle.std.specs.Prelude.{◌≡◌, refl, ◌⊎◌, ◌≢◌, Bool, true, false, ◌&&◌, ◌||◌, not, cond, List, [], ◌∷◌, ℕ, ◌+◌, ◌*◌, ◌/◌, ◌%◌, ◌<◌, set, eqb, Option, Some, None}
 use Rattle.std.proofs.Common.{ap, sym, subst, ◌∙◌, inl, inr, true≢false, arith, get_or-set_other, eqb-true, eq-eqb}
 use Rattle.std.proofs.lemmas.Bool.{false≢true, not-false}
 use Rattle.std.proofs.Math.Decide.{ℕ_discrete}
 use Rattle.model.specs.declared.Mapping.{Mapping}
-use Rattle.model.specs.declared.Found.{Found}
-use Rattle.model.specs.declared.Found.TheVariants.{At, Nothing}
-use Rattle.model.specs.declared.Translated.{Translated}
-use Rattle.model.specs.declared.Translated.TheVariants.{Mapped, NotMapped}
 use Rattle.model.specs.Machine.{Machine, State, with_frames, region_at, row_of, mapped_of}
 use Rattle.model.specs.Lookup.{contains}
 use Rattle.laws.specs.BoolLaws.{both_true}
@@ -29,19 +25,19 @@ use Rattle.isolation.specs.BackingsApart.{mapped_low}
 use Rattle.isolation.specs.LoneHolder.{same_base, alone, shared_else}
 
 -- what a page translates to is mapped
-pub translated : (l : List Mapping) (pg : ℕ) (x : Mapping) → translate l pg ≡ Mapped x → In x l × (x.page.0 ≡ pg)
+pub translated : (l : List Mapping) (pg : ℕ) (x : Mapping) → translate l pg ≡ Some x → In x l × (x.page.0 ≡ pg)
 unfolding translate
 translated [] pg x e = let z : ◌≡◌ {A = ℕ} 0 1 = cc in absurd (omega arith)
 translated (y ∷ l) pg x e = go (eqb y.page.0 pg) refl e (translated l pg x)
   where
-    go : (b : Bool) → eqb y.page.0 pg ≡ b → cond b (Mapped y) (translate l pg) ≡ Mapped x → (translate l pg ≡ Mapped x → In x l × (x.page.0 ≡ pg)) → In x (y ∷ l) × (x.page.0 ≡ pg)
+    go : (b : Bool) → eqb y.page.0 pg ≡ b → cond b (Some y) (translate l pg) ≡ Some x → (translate l pg ≡ Some x → In x l × (x.page.0 ≡ pg)) → In x (y ∷ l) × (x.page.0 ≡ pg)
     go true p q more = let z : y ≡ x = cc in (inl (sym z), ap (λ (w : Mapping). w.page.0) (sym z) ∙ eqb-true y.page.0 pg p)
     go false p q more = let k = more q in (inr k.0, k.1)
 
 -- a granted access is through a mapping
-pub grants : (t : Translated) (w : Bool) → granted t w ≡ true → (x : Mapping) × ((t ≡ Mapped x) × ((not w || is_writable x.flags.0) ≡ true))
-grants NotMapped w e = absurd (false≢true e)
-grants (Mapped x) w e = (x, (refl, (both_true (is_user x.flags.0) (not w || is_writable x.flags.0) e).1))
+pub grants : (t : Option Mapping) (w : Bool) → granted t w ≡ true → (x : Mapping) × ((t ≡ Some x) × ((not w || is_writable x.flags.0) ≡ true))
+grants None w e = absurd (false≢true e)
+grants (Some x) w e = (x, (refl, (both_true (is_user x.flags.0) (not w || is_writable x.flags.0) e).1))
 
 module _ (m : Machine) (o : Owing nothing m) (p a : ℕ) (granted_here : granted (page_at m p a) true ≡ true) where
   -- the byte that a store writes is no other page's, where one of the two pages is private
@@ -51,7 +47,7 @@ module _ (m : Machine) (o : Owing nothing m) (p a : ℕ) (granted_here : granted
   pub store_apart : (q c t base fr : ℕ) → Home m q t (c / 4096) → Apart q t → Backs m (row_of q t) (c / 4096) base fr → (p ≡ q → a ≡ c → ⊥) → byte_at (page_at m p a) a ≢ fr * 4096 + c % 4096
   store_apart q c t base fr home private b other e = go (grants (page_at m p a) true granted_here)
     where
-      go : (x : Mapping) × ((page_at m p a ≡ Mapped x) × ((not true || is_writable x.flags.0) ≡ true)) → ⊥
+      go : (x : Mapping) × ((page_at m p a ≡ Some x) × ((not true || is_writable x.flags.0) ≡ true)) → ⊥
       go (x, (tr, wr)) = at (o.mapped p low x inside.0)
         where
           inside : In x (mapped_of m p) × (x.page.0 ≡ a / 4096)
@@ -61,7 +57,7 @@ module _ (m : Machine) (o : Owing nothing m) (p a : ℕ) (granted_here : granted
           low = mapped_low m o p x inside.0
 
           place : x.frame.0 * 4096 + a % 4096 ≡ fr * 4096 + c % 4096
-          place = ap (λ (y : Translated). byte_at y a) (sym tr) ∙ e
+          place = ap (λ (y : Option Mapping). byte_at y a) (sym tr) ∙ e
 
           frame : x.frame.0 ≡ fr
           frame = let h = place in omega arith
@@ -120,11 +116,11 @@ store_same s sound p a b q c g private other = go (home_slot s q c) refl
     o : Owing nothing s.machine
     o = sound_owing s sound
 
-    apart : (t : ℕ) → home_slot s q c ≡ At t → PrivateAt s q c ⊎ PrivateAt s p a → Apart s.machine o p a g q t
+    apart : (t : ℕ) → home_slot s q c ≡ Some t → PrivateAt s q c ⊎ PrivateAt s p a → Apart s.machine o p a g q t
     apart t e (inl k) = inl (λ z. k.unshared (kind_at_home s q c t e ∙ z))
     apart t e (inr k) = inr (λ u h z. k.unshared (kind_at_home s p a u (at_home s.machine o p (a / 4096) u h) ∙ z))
 
-    un : (t : ℕ) → home_slot s q c ≡ At t → Undisturbed s (after s p a b) q t (c / 4096) (c % 4096)
+    un : (t : ℕ) → home_slot s q c ≡ Some t → Undisturbed s (after s p a b) q t (c / 4096) (c % 4096)
     un t e =
         let home = home_at s.machine o q (c / 4096) t e in
         record {
@@ -139,9 +135,9 @@ store_same s sound p a b q c g private other = go (home_slot s q c) refl
           listed = home.listed;
         }
 
-    go : (x : Found) → home_slot s q c ≡ x → Same s (after s p a b) q c
-    go Nothing e = record { seen = view_none (after s p a b) q c e ∙ sym (view_none s q c e); kind = kind_none (after s p a b) q c e ∙ sym (kind_none s q c e) }
-    go (At t) e = same_undisturbed s (after s p a b) o o q c t e (un t e)
+    go : (x : Option ℕ) → home_slot s q c ≡ x → Same s (after s p a b) q c
+    go None e = record { seen = view_none (after s p a b) q c e ∙ sym (view_none s q c e); kind = kind_none (after s p a b) q c e ∙ sym (kind_none s q c e) }
+    go (Some t) e = same_undisturbed s (after s p a b) o o q c t e (un t e)
 
 pub store_core : (s : State) → Sound s → (p a b q c : ℕ) → granted (page_at s.machine p a) true ≡ true → PrivateAt s q c → (p ≡ q → a ≡ c → ⊥) → Stays s (stored s p a b) q c
 store_core s sound p a b q c g private other = same_stays private (store_same s sound p a b q c g (inl private) other)

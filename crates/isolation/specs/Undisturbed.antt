@@ -1,18 +1,14 @@
 -- A page that a change leaves alone: its region's row, its entry, its frame's byte. Its view stays, if the machine keeps the rules before and after.
-use Rattle.std.specs.Prelude.{◌≡◌, refl, ◌≢◌, Bool, true, false, ◌||◌, not, List, ◌∷◌, ℕ, ◌+◌, ◌-◌, ◌*◌, ◌/◌, ◌%◌, ◌<◌, get_or}
-use Rattle.std.proofs.Common.{ap, sym, subst, ◌∙◌, inl, inr, true≢false, arith}
+use Rattle.std.specs.Prelude.{◌≡◌, refl, ◌≢◌, Bool, true, false, ◌||◌, not, List, ◌∷◌, ℕ, ◌+◌, ◌-◌, ◌*◌, ◌/◌, ◌%◌, ◌<◌, get_or, Option, Some, None, Result, Ok, Err, ⊤}
+use Rattle.std.proofs.Common.{ap, sym, subst, ◌∙◌, inl, inr, true≢false}
+use Rattle.laws.specs.ResultLaws.{none_not_some}
 use Rattle.answers.specs.declared.Refusal.{Refusal}
 use Rattle.answers.specs.declared.Refusal.TheVariants.{BadTable}
 use Rattle.model.specs.declared.Region.{Region}
 use Rattle.model.specs.declared.Entry.{Entry}
-use Rattle.model.specs.declared.Found.{Found}
-use Rattle.model.specs.declared.Found.TheVariants.{At, Nothing}
-use Rattle.model.specs.declared.Done.{Done}
-use Rattle.model.specs.declared.Done.TheVariants.{Yes, No}
 use Rattle.model.specs.Machine.{Machine, State, region_at, row_of, order_of}
 use Rattle.model.specs.Answers.{After, first_of}
 use Rattle.model.specs.Lookup.{contains, pages_for}
-use Rattle.model.specs.LookupLaws.{never_found}
 use Rattle.model.specs.Paging.{page_start}
 use Rattle.model.specs.Backing.{backing, backing_at}
 use Rattle.model.specs.Calls.{decided, guarded}
@@ -37,16 +33,16 @@ BacksTo m n i j pg = (base fr : ℕ) → Backs m i pg base fr → (b : ℕ) × B
 pub frame_same : {d e : ℕ → ℕ} (m n : Machine) → Owing d m → Owing e n → (p t q u pg : ℕ) → BacksTo m n (row_of p t) (row_of q u) pg → BacksTo n m (row_of q u) (row_of p t) pg → frame_by (backing n q u pg) ≡ frame_by (backing m p t pg)
 frame_same m n o k p t q u pg forth back = go (frame_by (backing m p t pg)) refl (frame_by (backing n q u pg)) refl
   where
-    go : (x : Found) → frame_by (backing m p t pg) ≡ x → (y : Found) → frame_by (backing n q u pg) ≡ y → frame_by (backing n q u pg) ≡ frame_by (backing m p t pg)
-    go (At f) e y i =
+    go : (x : Option ℕ) → frame_by (backing m p t pg) ≡ x → (y : Option ℕ) → frame_by (backing n q u pg) ≡ y → frame_by (backing n q u pg) ≡ frame_by (backing m p t pg)
+    go (Some f) e y i =
         let b = source_of m p t pg f e in
         let c = forth b.base f b.backs in
         (backing_of n q u pg k.once_a_page c.0 f c.1).0 ∙ sym e
-    go Nothing e (At g) i =
+    go None e (Some g) i =
         let b = source_of n q u pg g i in
         let c = back b.base g b.backs in
-        absurd (never_found (sym e ∙ (backing_of m p t pg o.once_a_page c.0 g c.1).0))
-    go Nothing e Nothing i = i ∙ sym e
+        absurd (none_not_some (sym e ∙ (backing_of m p t pg o.once_a_page c.0 g c.1).0))
+    go None e None i = i ∙ sym e
 
 -- an entry of the page in row i of one machine has its frame in one of row j of the other
 abbrev pub EntriesTo : Machine → Machine → (i j pg : ℕ) → Type 0
@@ -113,7 +109,7 @@ pub record Same (s after : State) (q c : ℕ) : Type 0 where
   pub seen : view after q c ≡ view s q c
   pub kind : kind_at after q c ≡ kind_at s q c
 
-module _ {d e : ℕ → ℕ} (s after : State) (o : Owing d s.machine) (k : Owing e after.machine) (q c t : ℕ) (home : home_slot s q c ≡ At t) (un : Undisturbed s after q t (c / 4096) (c % 4096)) where
+module _ {d e : ℕ → ℕ} (s after : State) (o : Owing d s.machine) (k : Owing e after.machine) (q c t : ℕ) (home : home_slot s q c ≡ Some t) (un : Undisturbed s after q t (c / 4096) (c % 4096)) where
   abbrev m : Machine
   m = s.machine
 
@@ -123,7 +119,7 @@ module _ {d e : ℕ → ℕ} (s after : State) (o : Owing d s.machine) (k : Owin
   there : Home m q t (c / 4096)
   there = home_at m o q (c / 4096) t home
 
-  pub still_home : home_slot after q c ≡ At t
+  pub still_home : home_slot after q c ≡ Some t
   still_home = at_home n k q (c / 4096) t (record { low = there.low; listed = un.listed; inside = ap (λ (r : Region). contains r (page_start (c / 4096))) un.look ∙ there.inside })
 
   used : Used (region_at m q t)
@@ -173,14 +169,11 @@ pub or_none : (a b : Bool) → (a || b) ≡ false → (a ≡ false) × (b ≡ fa
 or_none true b e = absurd (true≢false e)
 or_none false b e = (refl, e)
 
-pub not_done : {r : Refusal} → No r ≡ Yes → ⊥
-not_done {r} q = let z : ◌≡◌ {A = ℕ} 0 1 = cc in omega arith
-
 -- a refused call changes nothing
 pub guarded_same : {A : Type 0} (s : State) (refusal : Refusal → A) (tests : List (Bool × Refusal)) (t : After A) → (P : State → Type 0) → P s → (Passed tests → P t.state) → P (guarded s refusal tests t).state
 unfolding guarded
 guarded_same s refusal tests t P same core = go (first_of ((not (soundb s), BadTable) ∷ tests)) refl
   where
-    go : (d : Done) → first_of ((not (soundb s), BadTable) ∷ tests) ≡ d → P (decided d refusal s t).state
-    go Yes e = core (passed ((not (soundb s), BadTable) ∷ tests) e).1
-    go (No r) e = same
+    go : (d : Result ⊤ Refusal) → first_of ((not (soundb s), BadTable) ∷ tests) ≡ d → P (decided d refusal s t).state
+    go (Ok tt) e = core (passed ((not (soundb s), BadTable) ∷ tests) e).1
+    go (Err r) e = same

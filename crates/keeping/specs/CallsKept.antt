@@ -1,9 +1,8 @@
 -- Every call keeps a sound machine sound, and so does every sequence of calls.
-use Rattle.std.specs.Prelude.{◌≡◌, refl, List, [], ◌∷◌, ◌/◌, length}
+use Rattle.std.specs.Prelude.{◌≡◌, refl, List, [], ◌∷◌, ◌/◌, length, Result, Ok, Err, ⊤}
 use Rattle.std.proofs.Common.{subst}
+use Rattle.answers.specs.declared.Refusal.{Refusal}
 use Rattle.model.specs.declared.File.{File}
-use Rattle.model.specs.declared.Done.{Done}
-use Rattle.model.specs.declared.Done.TheVariants.{Yes, No}
 use Rattle.model.specs.Run.Call.{start, sound, open_process, close, create_private, create_file, create_shared, remove, clear, carve, covers, region, regions, fault, populate, eager, clone_region, clone, protect, pin, unpin, load, store}
 use Rattle.model.specs.Machine.{State, empty_machine, with_machine}
 use Rattle.model.specs.Answers.{first_of, fine, Try}
@@ -29,12 +28,12 @@ pub start_kept : (s : State) → Sound s → (files : List File) → Sound (step
 unfolding step call calls.start
 start_kept s k files = go (first_of (start_refusals s files)) refl
   where
-    left : Done → Try
-    left d = calls.decided d No s (fine (with_machine s (empty_machine (length s.frames / 4096) files)))
+    left : Result ⊤ Refusal → Try
+    left d = calls.decided d Err s (fine (with_machine s (empty_machine (length s.frames / 4096) files)))
 
-    go : (d : Done) → first_of (start_refusals s files) ≡ d → Sound (left d).state
-    go Yes e = subst (λ (d : Done). (left d).answer ≡ Yes → Sound (left d).state) e (start_sound s files) refl
-    go (No r) e = k
+    go : (d : Result ⊤ Refusal) → first_of (start_refusals s files) ≡ d → Sound (left d).state
+    go (Ok tt) e = subst (λ (d : Result ⊤ Refusal). (left d).answer ≡ Ok tt → Sound (left d).state) e (start_sound s files) refl
+    go (Err r) e = k
 
 -- "after any call, refused ones included"
 pub kept : (c : Call) (s : State) → Sound s → Sound (step c s)

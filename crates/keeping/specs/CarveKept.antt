@@ -1,5 +1,5 @@
 -- Carve keeps a machine sound. Regions that are taken out count as listed until their parts are: the machine with the list so far and the rest is sound.
-use Rattle.std.specs.Prelude.{◌≡◌, ◌⊎◌, ◌≢◌, ◌&&◌, ◌||◌, ℕ, ◌+◌, ◌-◌, ◌*◌, ◌%◌, ◌≤◌, ◌<◌, ltb}
+use Rattle.std.specs.Prelude.{◌≡◌, ◌⊎◌, ◌≢◌, ◌&&◌, ◌||◌, ℕ, ◌+◌, ◌-◌, ◌*◌, ◌%◌, ◌≤◌, ◌<◌, ltb, Result, Ok, Err, ⊤}
 use Rattle.std.proofs.Math.Path.{refl, ap, subst}
 use Rattle.std.proofs.Common.{sym, ◌∙◌, inl, inr, arith, length-append}
 use Rattle.std.proofs.Math.Bool.{Bool, true, false, not, cond, true≢false}
@@ -8,10 +8,9 @@ use Rattle.std.proofs.Math.ListN.{length, set, length-set}
 use Rattle.std.proofs.Math.Seq.{get_or-set_same, get_or-set_other}
 use Rattle.std.proofs.Math.Dec.{eqb}
 use borrow.Author.Tests.{eqb-true, eqb-false, eq-eqb, ne_eqb, ltb-true, ltb-false, lt-ltb, not-true, not-false}
+use Rattle.answers.specs.declared.Refusal.{Refusal}
 use Rattle.address.specs.Pages.{aligned}
 use Rattle.model.specs.declared.Region.{Region}
-use Rattle.model.specs.declared.Done.{Done}
-use Rattle.model.specs.declared.Done.TheVariants.{Yes, No}
 use Rattle.laws.specs.Lists.{part, keep, pad, count}
 use Rattle.model.specs.Machine.{Machine, State, with_order, process_at, region_at, row_of, order_of, no_region, attached_of, no_process}
 use Rattle.model.specs.Answers.{first_of}
@@ -446,19 +445,19 @@ module _ (d : ℕ → ℕ) (P : Machine → Type 0) (p : ℕ) (steps : Steps d p
           → Both (carve_each rest m p a e).0
       moved m q more = subst (λ (n : Machine). Both (carve_each rest n p a e).0) (sym q.machine) (more q.x q.l q.carving q.so_far)
 
-      left : Done → Machine × Done
+      left : Result ⊤ Refusal → Machine × Result ⊤ Refusal
       left t = elim t [
-        | Yes ↦ carve_each rest (split_at_bounds (with_order x p l) p s a e) p a e
-        | No r ↦ (with_order (with_order x p l) p (order_of (with_order x p l) p ++ (s ∷ rest)), No r)
+        | Ok tt ↦ carve_each rest (split_at_bounds (with_order x p l) p s a e) p a e
+        | Err r ↦ (with_order (with_order x p l) p (order_of (with_order x p l) p ++ (s ∷ rest)), Err r)
       ]
 
-      go : (t : Done) → first_of (split_refusals (with_order x p l) p s a e) ≡ t
+      go : (t : Result ⊤ Refusal) → first_of (split_refusals (with_order x p l) p s a e) ≡ t
           → ((y : Machine) (z : List ℕ) → Carving d p y z rest → P (with_order y p (z ++ rest)) → Both (carve_each rest (with_order y p z) p a e).0)
           → Both (left t).0
-      go Yes q more =
+      go (Ok tt) q more =
           let w = told x l s (passed _ q) in
           moved (split_at_bounds (with_order x p l) p s a e) (bounds_passed d P p steps a e rest x l s k w.0 so page_a page_e w.1) more
-      go (No y) q more = subst Both (sym (ap (λ z. with_order (with_order x p l) p (z ++ (s ∷ rest))) (list_is d p x l (s ∷ rest) k)
+      go (Err y) q more = subst Both (sym (ap (λ z. with_order (with_order x p l) p (z ++ (s ∷ rest))) (list_is d p x l (s ∷ rest) k)
           ∙ order_again x p l (l ++ (s ∷ rest)) k.room)) (k.owing, so)
 
 -- ---- what is lent
@@ -487,15 +486,15 @@ unfolding carve_each with_order
 each_lends [] m p a e = record { files = refl; file_count = refl; frame_count = refl }
 each_lends (s ∷ l) m p a e = go (first_of (split_refusals m p s a e)) (each_lends l (split_at_bounds m p s a e) p a e)
   where
-    left : Done → Machine × Done
+    left : Result ⊤ Refusal → Machine × Result ⊤ Refusal
     left t = elim t [
-      | Yes ↦ carve_each l (split_at_bounds m p s a e) p a e
-      | No r ↦ (with_order m p (order_of m p ++ (s ∷ l)), No r)
+      | Ok tt ↦ carve_each l (split_at_bounds m p s a e) p a e
+      | Err r ↦ (with_order m p (order_of m p ++ (s ∷ l)), Err r)
     ]
 
-    go : (t : Done) → Lends (split_at_bounds m p s a e) (carve_each l (split_at_bounds m p s a e) p a e).0 → Lends m (left t).0
-    go Yes k = lends_then (bounds_lend m p s a e) k
-    go (No r) k = record { files = refl; file_count = refl; frame_count = refl }
+    go : (t : Result ⊤ Refusal) → Lends (split_at_bounds m p s a e) (carve_each l (split_at_bounds m p s a e) p a e).0 → Lends m (left t).0
+    go (Ok tt) k = lends_then (bounds_lend m p s a e) k
+    go (Err r) k = record { files = refl; file_count = refl; frame_count = refl }
 
 pub carve_lends : (m : Machine) (p a e : ℕ)
     → Lends m (carve_each (keep (partial m p a e) (order_of m p)) (with_order m p (keep (λ t. not (partial m p a e t)) (order_of m p))) p a e).0

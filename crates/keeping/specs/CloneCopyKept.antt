@@ -1,5 +1,5 @@
 -- A region's clone that copies its pages: the region added without a range, then a frame and an entry for each backed page.
-use Rattle.std.specs.Prelude.{◌≡◌, ◌⊎◌, ◌≢◌, Bool, cond, List, [], ◌∷◌, ◌++◌, map, ℕ, zero, suc, ◌+◌, ◌*◌, ◌/◌, ◌%◌, ◌≤◌, ◌<◌, length}
+use Rattle.std.specs.Prelude.{◌≡◌, ◌⊎◌, ◌≢◌, Bool, cond, List, [], ◌∷◌, ◌++◌, map, ℕ, zero, suc, ◌+◌, ◌*◌, ◌/◌, ◌%◌, ◌≤◌, ◌<◌, length, Option, Some, None}
 use Rattle.std.proofs.Math.Path.{refl, ap, subst}
 use Rattle.std.proofs.Common.{sym, ◌∙◌, inl, inr, eqb-true, ne_eqb, le-leb, lt-ltb}
 use Rattle.std.proofs.Math.Bool.{true, false, not}
@@ -9,8 +9,6 @@ use Rattle.std.proofs.Math.ListN.{take}
 use Rattle.std.proofs.Math.Seq.{get_or-set_same}
 use Rattle.model.specs.declared.Backing.{Backing}
 use Rattle.model.specs.declared.Region.{Region}
-use Rattle.model.specs.declared.Found.{Found}
-use Rattle.model.specs.declared.Found.TheVariants.{At, Nothing}
 use Rattle.laws.specs.Lists.{part, keep, each, up_from}
 use Rattle.model.specs.Machine.{Machine, State, with_machine, with_frames, with_order, process_at, region_at, row_of, order_of, mapped_of, no_region, no_backing}
 use Rattle.model.specs.Lookup.{contains, is_ranged, segment_len, free_slot, free_entry, free_entries, row_found, is_found}
@@ -249,12 +247,12 @@ module _ (s : State) (o : Owing nothing s.machine) (lent : Lent s) (p t q : ℕ)
   unfolding range_pages
   range_page h i = go (is_ranged r) refl i
     where
-      none : not (is_found (entry_for m src h.page)) ≡ true → entry_for m src h.page ≡ Nothing
+      none : not (is_found (entry_for m src h.page)) ≡ true → entry_for m src h.page ≡ None
       none e = found (entry_for m src h.page) e
         where
-          found : (x : Found) → not (is_found x) ≡ true → x ≡ Nothing
-          found Nothing e = refl
-          found (At j) e = absurd (false≢true e)
+          found : (x : Option ℕ) → not (is_found x) ≡ true → x ≡ None
+          found None e = refl
+          found (Some j) e = absurd (false≢true e)
 
       go : (b : Bool) → is_ranged r ≡ b → In h (cond b (keep (λ h. not (is_found (entry_for m src h.page))) frames) [])
           → Page h × ((j : ℕ) → (entry_at m j).owner ≡ src + 1 → (entry_at m j).page.0 ≢ h.page)

@@ -1,12 +1,11 @@
 -- Cloning a region and a process keeps a machine sound.
-use Rattle.std.specs.Prelude.{◌≡◌, Bool, ◌&&◌, not, List, [], ◌∷◌, ℕ, ◌≤◌, length, eqb}
+use Rattle.std.specs.Prelude.{◌≡◌, Bool, ◌&&◌, not, List, [], ◌∷◌, ℕ, ◌≤◌, length, eqb, Result, Ok, Err, ⊤}
 use Rattle.std.proofs.Math.Path.{refl, ap}
 use Rattle.std.proofs.Common.{subst, inl, inr, arith}
 use Rattle.std.proofs.Math.Bool.{true, false, cond}
 use Rattle.std.proofs.Math.Dec.{ltb}
 use borrow.Author.Tests.{eqb-true, ltb-false}
-use Rattle.model.specs.declared.Done.{Done}
-use Rattle.model.specs.declared.Done.TheVariants.{Yes, No}
+use Rattle.answers.specs.declared.Refusal.{Refusal}
 use Rattle.laws.specs.Lists.{keep}
 use Rattle.model.specs.Machine.{Machine, State, process_at, region_at, row_of, order_of}
 use Rattle.model.specs.Answers.{fine, first_of, unless, and_then}
@@ -81,10 +80,10 @@ module _ (s : State) (sound : Sound s) (p t q : ℕ) (listed : In t (order_of s.
   unfolding core_clone_region
   clone_core = go (first_of (clone_refusals m p t q)) refl
     where
-      go : (d : Done) → first_of (clone_refusals m p t q) ≡ d
+      go : (d : Result ⊤ Refusal) → first_of (clone_refusals m p t q) ≡ d
           → Cloned (unless d s (fine (cond (is_copied (region_at m p t)) (copy_into s p t q) (share_into s p t q)))).state
-      go Yes e = went (passed _ e)
-      go (No x) e = (sound, grows_same refl refl refl)
+      go (Ok tt) e = went (passed _ e)
+      go (Err x) e = (sound, grows_same refl refl refl)
 
 pub clone_region_kept : (s : State) → Sound s → (p a q : ℕ) → Sound (step (Call.clone_region p a q) s)
 unfolding step call calls.clone_region clone_region_refusals
@@ -101,11 +100,11 @@ each_cloned (t ∷ l) s p q sound listed opened =
     go (core_clone_region s p t q).answer (core_clone_region s p t q).state (clone_core s sound p t q (listed t (inl refl)) opened)
     (λ u k. each_cloned l u p q k.0 (λ j i. grows_listed k.1 p j (listed j (inr i))) (k.1.opened q opened))
   where
-    go : (d : Done) (u : State) → Sound u × Grows s.machine u.machine
+    go : (d : Result ⊤ Refusal) (u : State) → Sound u × Grows s.machine u.machine
         → ((u : State) → Sound u × Grows s.machine u.machine → Sound (clone_each l u p q).state)
         → Sound (and_then (record { answer = d; state = u }) (λ v. clone_each l v p q)).state
-    go Yes u k more = more u k
-    go (No x) u k more = k.0
+    go (Ok tt) u k more = more u k
+    go (Err x) u k more = k.0
 
 pub clone_kept : (s : State) → Sound s → (p q : ℕ) → Sound (step (Call.clone p q) s)
 unfolding step call calls.clone clone_process_refusals core_clone

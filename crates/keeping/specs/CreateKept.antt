@@ -1,17 +1,16 @@
 -- Creation keeps a machine sound: a run claimed if it is needed, and the region added where there is room.
-use Rattle.std.specs.Prelude.{◌≡◌, ◌⊎◌, ◌≢◌, Bool, ◌&&◌, ◌||◌, not, cond, eqb, ltb, leb}
+use Rattle.std.specs.Prelude.{◌≡◌, ◌⊎◌, ◌≢◌, Bool, ◌&&◌, ◌||◌, not, cond, eqb, ltb, leb, Option, Some, None}
 use Rattle.std.proofs.Math.Path.{refl, ap, sym, subst}
 use Rattle.std.proofs.Common.{◌∙◌, true≢false, arith, eq-eqb, ne_eqb, ltb-false, leb-false}
 use Rattle.std.proofs.Math.Bool.{true, false}
 use Rattle.std.proofs.lemmas.Bool.{false≢true, eqb-false, not-false}
 use Prim.Native.Nat.{ℕ, ◌+◌, ◌≤◌, ◌<◌}
 use Rattle.std.proofs.Math.Seq.{get_or-set_same}
+use Rattle.laws.specs.ResultLaws.{none_not_some}
 use Rattle.address.specs.Flags.{good_flags}
 use Rattle.model.specs.declared.Backing.{Backing}
 use Rattle.model.specs.declared.Region.{Region}
 use Rattle.model.specs.declared.Place.{Place}
-use Rattle.model.specs.declared.Found.{Found}
-use Rattle.model.specs.declared.Found.TheVariants.{At, Nothing}
 use Rattle.model.specs.Machine.{Machine, State, with_machine, with_frames, with_order, process_at, region_at, no_backing, user_end}
 use Rattle.model.specs.Lookup.{is_shared, is_found, row_found, free_slot, pages_for, segment_end}
 use Rattle.model.specs.Backing.{backing_at, claim, with_backings, lowest_run, zero_frames}
@@ -19,7 +18,6 @@ use Rattle.model.specs.Create.{one, wanted_private, wanted_file, wanted_shared, 
 use Rattle.model.specs.Calls as calls
 use Rattle.model.specs.Run.{Call, call, step}
 use Rattle.model.specs.Sound.{Sound, Used, Hold}
-use Rattle.model.specs.LookupLaws.{never_found}
 use Rattle.laws.specs.BoolLaws.{or_none}
 use Rattle.keeping.specs.Owing.{Owing, Holds, nothing}
 use Rattle.keeping.specs.OwingLaws.{open_low}
@@ -55,8 +53,8 @@ record Granted (m : Machine) (p : ℕ) (place : Place) (eager : Bool) (r : Regio
   long : r.length ≤ r.size
   flags : r.kind ≢ 3 → good_flags r.flags.0 ≡ true
   file : r.kind ≡ 2 → r.file < m.file_count
-  spot_found : spot m p place (round_up r.size) ≡ At (row_found (spot m p place (round_up r.size)))
-  run : run_needed eager r ≡ true → lowest_run m (pages_for r.size) ≡ At (row_found (lowest_run m (pages_for r.size)))
+  spot_found : spot m p place (round_up r.size) ≡ Some (row_found (spot m p place (round_up r.size)))
+  run : run_needed eager r ≡ true → lowest_run m (pages_for r.size) ≡ Some (row_found (lowest_run m (pages_for r.size)))
   slot : not (is_found (free_slot m p)) ≡ false
 
 granted : (m : Machine) (p : ℕ) (place : Place) (eager : Bool) (r : Region) → Passed (create_refusals m p place eager r) → Granted m p place eager r
@@ -110,7 +108,7 @@ module _ (s : State) (sound : Sound s) (p : ℕ) (place : Place) (eager : Bool) 
   apart = clear_apart nothing m o p (open_low m o p g.opened) start r.size g.some room.clear
 
   -- without a run
-  plain_added : run_needed eager r ≡ false → Added m p (placed_at r start Nothing)
+  plain_added : run_needed eager r ≡ false → Added m p (placed_at r start None)
   plain_added e = record {
     opened = g.opened;
     slot = g.slot;
@@ -136,15 +134,15 @@ module _ (s : State) (sound : Sound s) (p : ℕ) (place : Place) (eager : Bool) 
       unshared : r.kind ≢ 3
       unshared u = true≢false (sym (eq-eqb r.kind 3 u) ∙ (or_none eager (is_shared r) e).1)
 
-  plain_kept : run_needed eager r ≡ false → Sound (with_machine s (add_region m p (placed_at r start Nothing)))
+  plain_kept : run_needed eager r ≡ false → Sound (with_machine s (add_region m p (placed_at r start None)))
   unfolding add_region with_order
   plain_kept e =
-      owing_sound _ (added_kept nothing m p (placed_at r start Nothing)
-      (subst (λ (k : ℕ → ℕ). Owing k m) (λ i x. sym (owes_nothing (placed_at r start Nothing) nothing (λ z. omega arith) x) i) o) (plain_added e))
+      owing_sound _ (added_kept nothing m p (placed_at r start None)
+      (subst (λ (k : ℕ → ℕ). Owing k m) (λ i x. sym (owes_nothing (placed_at r start None) nothing (λ z. omega arith) x) i) o) (plain_added e))
       (lent_as s _ (record { files = refl; file_count = refl; frame_count = refl }) (sound_lent_is s sound))
 
   -- with one
-  module _ (need : run_needed eager r ≡ true) (f : ℕ) (found : lowest_run m pages ≡ At f) where
+  module _ (need : run_needed eager r ≡ true) (f : ℕ) (found : lowest_run m pages ≡ Some f) where
     run : FreeRun m f pages
     run = lowest_run_free nothing m o pages f found
 
@@ -168,7 +166,7 @@ module _ (s : State) (sound : Sound s) (p : ℕ) (place : Place) (eager : Bool) 
         held_used nothing m o f (record { by = h; holds = k; frame = e })
         (let d = run.some in let a = run.free f (omega arith) (omega arith) f (omega arith) in omega arith)
 
-    run_added : Added claimed p (placed_at r start (At f))
+    run_added : Added claimed p (placed_at r start (Some f))
     unfolding claim with_backings free_slot
     run_added = record {
       opened = g.opened;
@@ -192,25 +190,25 @@ module _ (s : State) (sound : Sound s) (p : ℕ) (place : Place) (eager : Bool) 
       agree = λ z h k e. absurd (unheld h k e);
     }
 
-    run_kept : Sound (with_machine (with_frames s (zero_frames f pages s.frames)) (add_region claimed p (placed_at r start (At f))))
+    run_kept : Sound (with_machine (with_frames s (zero_frames f pages s.frames)) (add_region claimed p (placed_at r start (Some f))))
     unfolding add_region with_order claim with_backings
     run_kept =
         let lent = sound_lent_is s sound in
-        let owed = subst (λ (k : ℕ → ℕ). Owing k claimed) (sym (owes_range (placed_at r start (At f)) nothing asked.used refl)) (claim_kept nothing m o f pages run) in
+        let owed = subst (λ (k : ℕ → ℕ). Owing k claimed) (sym (owes_range (placed_at r start (Some f)) nothing asked.used refl)) (claim_kept nothing m o f pages run) in
         let zeroed = lent_frames s _ (zero_length f pages m.frame_count s.frames lent.frames run.inside) lent in
-        owing_sound _ (added_kept nothing claimed p (placed_at r start (At f)) owed run_added)
+        owing_sound _ (added_kept nothing claimed p (placed_at r start (Some f)) owed run_added)
         (lent_as (with_frames s (zero_frames f pages s.frames)) _ (record { files = refl; file_count = refl; frame_count = refl }) zeroed)
 
   create_core : Sound (core_create s p place eager r)
   unfolding core_create with_run
   create_core = go (run_needed eager r) refl (lowest_run m pages) refl
     where
-      go : (b : Bool) → run_needed eager r ≡ b → (x : Found) → lowest_run m pages ≡ x
-          → Sound (with_machine (with_run s (cond b x Nothing) pages)
-          (add_region (with_run s (cond b x Nothing) pages).machine p (placed_at r start (cond b x Nothing))))
+      go : (b : Bool) → run_needed eager r ≡ b → (x : Option ℕ) → lowest_run m pages ≡ x
+          → Sound (with_machine (with_run s (cond b x None) pages)
+          (add_region (with_run s (cond b x None) pages).machine p (placed_at r start (cond b x None))))
       go false e x q = plain_kept e
-      go true e (At f) q = run_kept e f q
-      go true e Nothing q = absurd (never_found (sym q ∙ g.run e))
+      go true e (Some f) q = run_kept e f q
+      go true e None q = absurd (none_not_some (sym q ∙ g.run e))
 
 asked_private : (size flags : ℕ) (copy thread eager : Bool) → Asked eager (wanted_private size flags copy thread)
 asked_private size flags copy thread eager = record {

@@ -1,18 +1,14 @@
 -- A page fault keeps a machine sound, whichever way it goes.
-use Rattle.std.specs.Prelude.{◌≡◌, ◌⊎◌, ◌≢◌, Bool, ◌&&◌, not, cond, List, [], ◌∷◌, ℕ, ◌+◌, ◌*◌, ◌/◌, ◌%◌, ◌<◌, eqb, ltb, leb}
+use Rattle.std.specs.Prelude.{◌≡◌, ◌⊎◌, ◌≢◌, Bool, ◌&&◌, not, cond, List, [], ◌∷◌, ℕ, ◌+◌, ◌*◌, ◌/◌, ◌%◌, ◌<◌, eqb, ltb, leb, Option, Some, None, Result, Ok, Err, ⊤}
 use Rattle.std.proofs.Math.Path.{refl}
 use Rattle.std.proofs.Common.{ap, sym, subst, ◌∙◌, inl, inr, true≢false}
 use Rattle.std.proofs.Math.Bool.{true, false}
 use native.Mathlib.Omega.{arith}
 use Rattle.std.proofs.Math.ListN.{length}
 use borrow.Author.Tests.{eqb-true, eqb-false, leb-true, leb-false, ltb-true, le-leb, lt-ltb}
+use Rattle.answers.specs.declared.Refusal.{Refusal}
 use Rattle.model.specs.declared.Region.{Region}
 use Rattle.model.specs.declared.Mapping.{Mapping}
-use Rattle.model.specs.declared.Done.{Done}
-use Rattle.model.specs.declared.Done.TheVariants.{Yes, No}
-use Rattle.model.specs.declared.Found.TheVariants.{At}
-use Rattle.model.specs.declared.Translated.{Translated}
-use Rattle.model.specs.declared.Translated.TheVariants.{Mapped, NotMapped}
 use Rattle.model.specs.declared.Backed.{Backed}
 use Rattle.model.specs.declared.Backed.TheVariants.{ByEntry, ByRange, Unbacked}
 use Rattle.model.specs.declared.Way.{Way}
@@ -51,13 +47,13 @@ use Rattle.keeping.specs.LetGoLaws.{lends_let_go}
 use Rattle.keeping.specs.FaultWayLaws.{Right, way_right}
 use Rattle.keeping.specs.OwnFrameKept.{own_kept}
 
-not_mapped : (pg : ℕ) (l : List Mapping) → translate l pg ≡ NotMapped → (x : Mapping) → In x l → x.page.0 ≢ pg
+not_mapped : (pg : ℕ) (l : List Mapping) → translate l pg ≡ None → (x : Mapping) → In x l → x.page.0 ≢ pg
 unfolding translate
 not_mapped pg [] e x k = absurd k
 not_mapped pg (y ∷ l) e x k = go (eqb y.page.0 pg) refl e k (not_mapped pg l)
   where
-    go : (b : Bool) → eqb y.page.0 pg ≡ b → cond b (Mapped y) (translate l pg) ≡ NotMapped → In x (y ∷ l)
-        → (translate l pg ≡ NotMapped → (x : Mapping) → In x l → x.page.0 ≢ pg) → x.page.0 ≢ pg
+    go : (b : Bool) → eqb y.page.0 pg ≡ b → cond b (Some y) (translate l pg) ≡ None → In x (y ∷ l)
+        → (translate l pg ≡ None → (x : Mapping) → In x l → x.page.0 ≢ pg) → x.page.0 ≢ pg
     go true p q i more = let z : ◌≡◌ {A = ℕ} 0 1 = cc in absurd (omega arith)
     go false p q (inl i) more = λ z. eqb-false y.page.0 pg p (ap (λ (w : Mapping). w.page.0) (sym i) ∙ z)
     go false p q (inr i) more = more q x i
@@ -94,7 +90,7 @@ module _ (d : ℕ → ℕ) (m : Machine) (o : Owing d m) (p t pg : ℕ) (listed 
               (subst (λ (j : ℕ). Flagged (region_at m p j) r.flags.0 (backing_at m k.base).holders) (sym slot)
               (record { private = λ z. inl refl; lone = λ z w. sym lone ∙ one; shared = λ z. absurd (private z) }))
 
-  map_kept : (f fl : ℕ) → translate (mapped_of m p) pg ≡ NotMapped → frame_by (backing m p t pg) ≡ At f → Flagged r fl (holders_by (backing m p t pg))
+  map_kept : (f fl : ℕ) → translate (mapped_of m p) pg ≡ None → frame_by (backing m p t pg) ≡ Some f → Flagged r fl (holders_by (backing m p t pg))
       → no_room m p ≡ false → Owing d (with_mapped m p (map_page (mapped_of m p) (mapping pg f fl)))
   map_kept f fl none frame flagged room =
       let long = length_map (mapped_of m p) (mapping pg f fl) in
@@ -117,7 +113,7 @@ module _ (d : ℕ → ℕ) (m : Machine) (o : Owing d m) (p t pg : ℕ) (listed 
       go y (inr i) = o.mapped p low y i
 
   -- the frame of a page is one of the machine's
-  pub frame_low : (f : ℕ) → frame_by (backing m p t pg) ≡ At f → f < m.frame_count
+  pub frame_low : (f : ℕ) → frame_by (backing m p t pg) ≡ Some f → f < m.frame_count
   frame_low f e = let k = source_of m p t pg f e in go k.base k.backs
     where
       go : (base : ℕ) → Backs m (row_of p t) pg base f → f < m.frame_count
@@ -181,12 +177,12 @@ module _ (s : State) (sound : Sound s) (p t pg : ℕ) (listed : In t (order_of s
       own_frame_kept _ k.0 (bytes_length s.frames f.0 m.frame_count (sound_lent_is s sound).frames
       (frame_low nothing m o p t pg listed contained f.0 k.1)) e.0 (room (translate (mapped_of m p) pg) refl e.1.0) e.1.1.0
     where
-      room : (x : Translated) → translate (mapped_of m p) pg ≡ x → (not (is_mapped x) && no_room m p) ≡ false → length (unmap_page (mapped_of m p) pg) < 128
-      room (Mapped x) q z =
+      room : (x : Option Mapping) → translate (mapped_of m p) pg ≡ x → (not (is_mapped x) && no_room m p) ≡ false → length (unmap_page (mapped_of m p) pg) < 128
+      room (Some x) q z =
           let a = length_unmapped pg (mapped_of m p) x q in
           let b = few_pages nothing m o p (open_low m o p (listed_open nothing m o p t listed)) in
           omega arith
-      room NotMapped q z = let a = length_unmap pg (mapped_of m p) in let b = mapped_length m p in let c = leb-false 128 (process_at m p).mapped z in omega arith
+      room None q z = let a = length_unmap pg (mapped_of m p) in let b = mapped_length m p in let c = leb-false 128 (process_at m p).mapped z in omega arith
   went Fill k e =
       own_frame_kept _ k (fill_length s (region_at m p t) pg) e.0
       (let a = length_unmap pg (mapped_of m p) in let b = mapped_length m p in let c = leb-false 128 (process_at m p).mapped e.1.1.0 in omega arith)
@@ -201,9 +197,9 @@ module _ (s : State) (sound : Sound s) (p t pg : ℕ) (listed : In t (order_of s
   unfolding handle_fault
   fault_core w = go (first_of (way_refusals m p t pg (fault_way m p t pg w))) refl
     where
-      go : (d : Done) → first_of (way_refusals m p t pg (fault_way m p t pg w)) ≡ d → Sound (unless d s (fine (go_way s p t pg (fault_way m p t pg w)))).state
-      go Yes e = went (fault_way m p t pg w) (way_right m p t pg w) (passed _ e)
-      go (No x) e = sound
+      go : (d : Result ⊤ Refusal) → first_of (way_refusals m p t pg (fault_way m p t pg w)) ≡ d → Sound (unless d s (fine (go_way s p t pg (fault_way m p t pg w)))).state
+      go (Ok tt) e = went (fault_way m p t pg w) (way_right m p t pg w) (passed _ e)
+      go (Err x) e = sound
 
 -- the page of an address in a region starts in it
 pub page_inside : {d : ℕ → ℕ} (m : Machine) → Owing d m → (p : ℕ) → p < 8 → (t a : ℕ) → In t (order_of m p) → contains (region_at m p t) a ≡ true

@@ -1,14 +1,13 @@
 -- Free frames: the pool's next frame and the lowest run are free, and a frame claimed leaves at most one less.
-use Rattle.std.specs.Prelude.{◌≡◌, refl, ◌≢◌, Bool, true, false, ◌&&◌, ◌||◌, not, cond, List, [], ◌∷◌, ℕ, zero, suc, ◌+◌, ◌-◌, ◌≤◌, ◌<◌, length, get_or, set, take, eqb, ltb, leb}
+use Rattle.std.specs.Prelude.{◌≡◌, refl, ◌≢◌, Bool, true, false, ◌&&◌, ◌||◌, not, cond, List, [], ◌∷◌, ℕ, zero, suc, ◌+◌, ◌-◌, ◌≤◌, ◌<◌, length, get_or, set, take, eqb, ltb, leb, Some}
 use Rattle.std.proofs.Common.{ap, sym, subst, ◌∙◌, inl, inr, true≢false, zero-le, suc-le-suc, le_of_suc-le-suc, not-suc-le-zero, arith, get_or-take, length-take-le, ltb-true, ltb-false, eqb-true, le-leb, leb-true}
 use Rattle.std.proofs.lemmas.Bool.{false≢true, eqb-false, not-true}
+use Rattle.laws.specs.ResultLaws.{none_not_some, some_same}
 use Rattle.model.specs.declared.Backing.{Backing}
-use Rattle.model.specs.declared.Found.TheVariants.{At}
 use Rattle.laws.specs.Lists.{up_from}
 use Rattle.model.specs.Machine.{Machine, no_backing}
 use Rattle.model.specs.Backing.{backing_at, in_some, free_frames, run_from, lowest_run, claim, with_backings}
 use Rattle.model.specs.Sound.{free_of}
-use Rattle.model.specs.LookupLaws.{never_found, same_slot}
 use Rattle.laws.specs.BoolLaws.{both_true, or_none}
 use Rattle.laws.specs.SetLaws.{each_row}
 use Rattle.laws.specs.In.{In, Once}
@@ -75,10 +74,10 @@ next_run d m o e =
 
 -- ---- a run
 
-run_of : (P : ℕ → Type 0) (n f k : ℕ) (l : List ℕ) → ((x : ℕ) → In x l → P x) → ((x : ℕ) → f ≤ x → x < f + k → P x) → (g : ℕ) → run_from n f k l ≡ At g
+run_of : (P : ℕ → Type 0) (n f k : ℕ) (l : List ℕ) → ((x : ℕ) → In x l → P x) → ((x : ℕ) → f ≤ x → x < f + k → P x) → (g : ℕ) → run_from n f k l ≡ Some g
     → (1 ≤ n) × ((x : ℕ) → g ≤ x → x < g + n → P x)
 unfolding run_from
-run_of P n f k [] all so g e = absurd (never_found e)
+run_of P n f k [] all so g e = absurd (none_not_some e)
 run_of P n f k (x ∷ l) all so g e =
     go (eqb x (f + k)) refl (eqb (k + 1) n) refl (eqb n 1) refl e (λ s. run_of P n f (k + 1) l (λ y i. all y (inr i)) s g)
     (λ s. run_of P n x 1 l (λ y i. all y (inr i)) s g)
@@ -94,20 +93,20 @@ run_of P n f k (x ∷ l) all so g e =
     alone y a b = let w : x ≡ y = omega arith in subst P w (all x (inl refl))
 
     go : (a : Bool) → eqb x (f + k) ≡ a → (b : Bool) → eqb (k + 1) n ≡ b → (c : Bool) → eqb n 1 ≡ c
-        → cond a (cond b (At f) (run_from n f (k + 1) l)) (cond c (At x) (run_from n x 1 l)) ≡ At g
-        → (((y : ℕ) → f ≤ y → y < f + (k + 1) → P y) → run_from n f (k + 1) l ≡ At g → (1 ≤ n) × ((y : ℕ) → g ≤ y → y < g + n → P y))
-        → (((y : ℕ) → x ≤ y → y < x + 1 → P y) → run_from n x 1 l ≡ At g → (1 ≤ n) × ((y : ℕ) → g ≤ y → y < g + n → P y))
+        → cond a (cond b (Some f) (run_from n f (k + 1) l)) (cond c (Some x) (run_from n x 1 l)) ≡ Some g
+        → (((y : ℕ) → f ≤ y → y < f + (k + 1) → P y) → run_from n f (k + 1) l ≡ Some g → (1 ≤ n) × ((y : ℕ) → g ≤ y → y < g + n → P y))
+        → (((y : ℕ) → x ≤ y → y < x + 1 → P y) → run_from n x 1 l ≡ Some g → (1 ≤ n) × ((y : ℕ) → g ≤ y → y < g + n → P y))
         → (1 ≤ n) × ((y : ℕ) → g ≤ y → y < g + n → P y)
     go true p true q c r w more anew =
         let len = eqb-true (k + 1) n q in
-        let at = same_slot w in
+        let at = some_same w in
         (omega arith, λ y a b. longer (eqb-true x (f + k) p) y (omega arith) (omega arith))
     go true p false q c r w more anew = more (longer (eqb-true x (f + k) p)) w
-    go false p b q true r w more anew = let len = eqb-true n 1 r in let at = same_slot w in (omega arith, λ y a b. alone y (omega arith) (omega arith))
+    go false p b q true r w more anew = let len = eqb-true n 1 r in let at = some_same w in (omega arith, λ y a b. alone y (omega arith) (omega arith))
     go false p b q false r w more anew = anew alone w
 
 -- the lowest run is free
-pub lowest_run_free : (d : ℕ → ℕ) (m : Machine) → Owing d m → (n f : ℕ) → lowest_run m n ≡ At f → FreeRun m f n
+pub lowest_run_free : (d : ℕ → ℕ) (m : Machine) → Owing d m → (n f : ℕ) → lowest_run m n ≡ Some f → FreeRun m f n
 unfolding lowest_run
 lowest_run_free d m o n f e =
     let k = run_of (IsFree m) n 0 0 (free_of m) (is_free d m o) (λ x a b. absurd (omega arith)) f e in

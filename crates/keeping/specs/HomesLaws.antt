@@ -1,19 +1,18 @@
 -- The model's lists of homes and of holds by membership.
-use Rattle.std.specs.Prelude.{◌≡◌, ◌⊎◌, ◌≢◌, Bool, false, cond, List, [], ◌∷◌, map, ℕ, ◌+◌, ◌≤◌, eqb}
+use Rattle.std.specs.Prelude.{◌≡◌, ◌⊎◌, ◌≢◌, Bool, false, cond, List, [], ◌∷◌, map, ℕ, ◌+◌, ◌≤◌, eqb, Some}
 use Rattle.std.proofs.Math.Path.{refl, ap}
 use Rattle.std.proofs.Common.{sym, subst, ◌∙◌, inl, inr, true≢false, arith}
 use Rattle.std.proofs.Math.Bool.{true}
 use Rattle.std.proofs.Math.ListN.{get_or}
 use borrow.Author.Tests.{eqb-true, eqb-false, eq-eqb, ne_eqb, not-true}
+use Rattle.laws.specs.ResultLaws.{none_not_some, some_same}
 use Rattle.model.specs.declared.Entry.{Entry}
 use Rattle.model.specs.declared.Region.{Region}
-use Rattle.model.specs.declared.Found.TheVariants.{At}
 use Rattle.laws.specs.Lists.{keep, count}
 use Rattle.model.specs.Machine.{Machine, region_at, order_of, no_entry, no_region}
 use Rattle.model.specs.Lookup.{contains, is_used, is_ranged}
 use Rattle.model.specs.Backing.{backing_at}
 use Rattle.model.specs.Sound.{Hold, holds, entry_holds, range_holds, homes, only, holders_of, RegionFits, EntryFits}
-use Rattle.model.specs.LookupLaws.{never_found, same_slot}
 use Rattle.laws.specs.BoolLaws.{both_true, not_of}
 use Rattle.laws.specs.In.{In, Once}
 use Rattle.laws.specs.InLaws.{in_at, in_row, in_left, in_right, in_either, in_map, map_in}
@@ -24,32 +23,32 @@ use Rattle.keeping.specs.OwingLaws.{taken_there, used_there}
 
 -- ---- the one of a list
 
-only_is : (l : List ℕ) (s : ℕ) → only l ≡ At s → In s l
-only_is [] s e = absurd (never_found e)
-only_is (x ∷ []) s e = inl (sym (same_slot e))
-only_is (x ∷ y ∷ l) s e = absurd (never_found e)
+only_is : (l : List ℕ) (s : ℕ) → only l ≡ Some s → In s l
+only_is [] s e = absurd (none_not_some e)
+only_is (x ∷ []) s e = inl (sym (some_same e))
+only_is (x ∷ y ∷ l) s e = absurd (none_not_some e)
 
-in_only : (f : ℕ → Bool) (s : ℕ) (l : List ℕ) → Once l → In s l → f s ≡ true → ((t : ℕ) → In t l → f t ≡ true → t ≡ s) → only (keep f l) ≡ At s
+in_only : (f : ℕ → Bool) (s : ℕ) (l : List ℕ) → Once l → In s l → f s ≡ true → ((t : ℕ) → In t l → f t ≡ true → t ≡ s) → only (keep f l) ≡ Some s
 unfolding keep
 in_only f s [] o k e u = absurd k
 in_only f s (x ∷ l) o k e u = go (f x) refl k (λ h. in_only f s l o.1 h e (λ t i. u t (inr i)))
   where
-    go : (b : Bool) → f x ≡ b → In s (x ∷ l) → (In s l → only (keep f l) ≡ At s) → only (cond b (x ∷ keep f l) (keep f l)) ≡ At s
+    go : (b : Bool) → f x ≡ b → In s (x ∷ l) → (In s l → only (keep f l) ≡ Some s) → only (cond b (x ∷ keep f l) (keep f l)) ≡ Some s
     go true p h more =
         let same = u x (inl refl) p in
-        ap (λ t. only (x ∷ t)) (keep_none f l (λ t i q. o.0 (subst (λ (y : ℕ). In y l) (u t (inr i) q ∙ sym same) i))) ∙ ap (λ (y : ℕ). At y) same
+        ap (λ t. only (x ∷ t)) (keep_none f l (λ t i q. o.0 (subst (λ (y : ℕ). In y l) (u t (inr i) q ∙ sym same) i))) ∙ ap (λ (y : ℕ). Some y) same
     go false p (inl q) more = absurd (true≢false (sym e ∙ ap f q ∙ p))
     go false p (inr h) more = more h
 
 module _ (m : Machine) (p a s : ℕ) where
   -- the one home of an address is listed and has it
-  pub home_listed : only (homes m p a) ≡ At s → In s (order_of m p) × (contains (region_at m p s) a ≡ true)
+  pub home_listed : only (homes m p a) ≡ Some s → In s (order_of m p) × (contains (region_at m p s) a ≡ true)
   unfolding homes
   home_listed e = in_keep (λ t. contains (region_at m p t) a) s (order_of m p) (only_is (keep (λ t. contains (region_at m p t) a) (order_of m p)) s e)
 
   -- and one that is listed and alone has it is its home
   pub listed_home : Once (order_of m p) → In s (order_of m p) → contains (region_at m p s) a ≡ true
-      → ((t : ℕ) → In t (order_of m p) → contains (region_at m p t) a ≡ true → t ≡ s) → only (homes m p a) ≡ At s
+      → ((t : ℕ) → In t (order_of m p) → contains (region_at m p t) a ≡ true → t ≡ s) → only (homes m p a) ≡ Some s
   unfolding homes
   listed_home o k e u = in_only (λ t. contains (region_at m p t) a) s (order_of m p) o k e u
 

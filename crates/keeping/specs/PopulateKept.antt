@@ -1,9 +1,6 @@
 -- Populate and eager populate keep a machine sound: faults one after the other.
-use Rattle.std.specs.Prelude.{◌≡◌, refl, Bool, true, false, cond, List, [], ◌∷◌, ℕ, zero, suc, ◌+◌, ◌/◌, ltb}
-use Rattle.model.specs.declared.Done.{Done}
-use Rattle.model.specs.declared.Done.TheVariants.{Yes, No}
-use Rattle.model.specs.declared.Found.{Found}
-use Rattle.model.specs.declared.Found.TheVariants.{At, Nothing}
+use Rattle.std.specs.Prelude.{◌≡◌, refl, Bool, true, false, cond, List, [], ◌∷◌, ℕ, zero, suc, ◌+◌, ◌/◌, ltb, Option, Some, None, Result, Ok, Err, ⊤}
+use Rattle.answers.specs.declared.Refusal.{Refusal}
 use Rattle.model.specs.Machine.{State, region_at, order_of, mapped_of}
 use Rattle.model.specs.Answers.{Try, fine, and_then}
 use Rattle.model.specs.Lookup.{region_for, contains}
@@ -23,9 +20,9 @@ use Rattle.keeping.specs.FaultKept.{fault_core}
 pub then_kept : (t : Try) (f : State → Try) → Sound t.state → ((s : State) → Sound s → Sound (f s).state) → Sound (and_then t f).state
 then_kept t f a next = go t.answer t.state a
   where
-    go : (d : Done) (s : State) → Sound s → Sound (and_then (record { answer = d; state = s }) f).state
-    go Yes s b = next s b
-    go (No r) s b = b
+    go : (d : Result ⊤ Refusal) (s : State) → Sound s → Sound (and_then (record { answer = d; state = s }) f).state
+    go (Ok tt) s b = next s b
+    go (Err r) s b = b
 
 -- one page
 pub page_kept : (s : State) → Sound s → (p t pg : ℕ) (w : Bool) → In t (order_of s.machine p) → contains (region_at s.machine p t) (page_start pg) ≡ true
@@ -43,27 +40,27 @@ unfolding visit region_for
 visit_kept zero s sound p pg last w = sound
 visit_kept (suc n) s sound p pg last w = go (ltb last pg) (region_for s.machine p (page_start pg)) refl (next_start s.machine p pg) (visit_kept n)
   where
-    left : Bool → Found → Found → Try
+    left : Bool → Option ℕ → Option ℕ → Try
     left b x y = elim b [
       | true ↦ fine s
       | false ↦ elim x [
-        | At slot ↦ and_then (populate_page s p slot pg w) (λ t. visit n t p (pg + 1) last w)
-        | Nothing ↦ elim y [
-          | At next ↦ visit n s p next last w
-          | Nothing ↦ fine s
+        | Some slot ↦ and_then (populate_page s p slot pg w) (λ t. visit n t p (pg + 1) last w)
+        | None ↦ elim y [
+          | Some next ↦ visit n s p next last w
+          | None ↦ fine s
         ]
       ]
     ]
 
-    go : (b : Bool) (x : Found) → region_for s.machine p (page_start pg) ≡ x → (y : Found)
+    go : (b : Bool) (x : Option ℕ) → region_for s.machine p (page_start pg) ≡ x → (y : Option ℕ)
         → ((s : State) → Sound s → (p pg last : ℕ) (w : Bool) → Sound (visit n s p pg last w).state) → Sound (left b x y).state
     go true x e y more = sound
-    go false (At t) e y more =
+    go false (Some t) e y more =
         let k = first_found (λ s'. contains (region_at s.machine p s') (page_start pg)) (order_of s.machine p) t e in
         then_kept (populate_page s p t pg w) (λ u. visit n u p (pg + 1) last w) (page_kept s sound p t pg w (among_in t (order_of s.machine p) k.1) k.0)
         (λ u a. more u a p (pg + 1) last w)
-    go false Nothing e (At next) more = more s sound p next last w
-    go false Nothing e Nothing more = sound
+    go false None e (Some next) more = more s sound p next last w
+    go false None e None more = sound
 
 -- a range of addresses
 pub core_populate_keeps : (s : State) → Sound s → (p a len : ℕ) (w : Bool) → Sound (core_populate s p a len w).state

@@ -1,10 +1,7 @@
 -- Faults, populate and eager populate leave regions and lists of attached regions as they were.
-use Rattle.std.specs.Prelude.{◌≡◌, refl, Bool, true, false, cond, List, ℕ, zero, suc, ◌+◌, ◌/◌, ltb}
+use Rattle.std.specs.Prelude.{◌≡◌, refl, Bool, true, false, cond, List, ℕ, zero, suc, ◌+◌, ◌/◌, ltb, Option, Some, None, Result, Ok, Err, ⊤}
 use Rattle.std.proofs.Common.{◌∙◌}
-use Rattle.model.specs.declared.Done.{Done}
-use Rattle.model.specs.declared.Done.TheVariants.{Yes, No}
-use Rattle.model.specs.declared.Found.{Found}
-use Rattle.model.specs.declared.Found.TheVariants.{At, Nothing}
+use Rattle.answers.specs.declared.Refusal.{Refusal}
 use Rattle.model.specs.declared.Mapping.{Mapping}
 use Rattle.model.specs.declared.Way.{Way}
 use Rattle.model.specs.declared.Way.TheVariants.{Refuse, Already, Restore, Map, Copy, Fill}
@@ -55,9 +52,9 @@ pub fault_stays : (s : State) (p t page : ℕ) (w : Bool) → Stays s.machine (h
 unfolding handle_fault
 fault_stays s p t page w = go (first_of (way_refusals s.machine p t page (fault_way s.machine p t page w)))
   where
-    go : (d : Done) → Stays s.machine (unless d s (fine (go_way s p t page (fault_way s.machine p t page w)))).state.machine
-    go Yes = way_stays s p t page (fault_way s.machine p t page w)
-    go (No r) = stays_refl s.machine
+    go : (d : Result ⊤ Refusal) → Stays s.machine (unless d s (fine (go_way s p t page (fault_way s.machine p t page w)))).state.machine
+    go (Ok tt) = way_stays s p t page (fault_way s.machine p t page w)
+    go (Err r) = stays_refl s.machine
 
 pub page_stays : (s : State) (p t page : ℕ) (w : Bool) → Stays s.machine (populate_page s p t page w).state.machine
 unfolding populate_page
@@ -70,32 +67,32 @@ page_stays s p t page w = go (well_mapped (translate (mapped_of s.machine p) pag
 then_stays : (m : Machine) (t : Try) (f : State → Try) → Stays m t.state.machine → ((s : State) → Stays s.machine (f s).state.machine) → Stays m (and_then t f).state.machine
 then_stays m t f a next = go t.answer t.state a
   where
-    go : (d : Done) (s : State) → Stays m s.machine → Stays m (and_then (leaving d s) f).state.machine
-    go Yes s b = stays_then b (next s)
-    go (No r) s b = b
+    go : (d : Result ⊤ Refusal) (s : State) → Stays m s.machine → Stays m (and_then (leaving d s) f).state.machine
+    go (Ok tt) s b = stays_then b (next s)
+    go (Err r) s b = b
 
 pub visit_stays : (n : ℕ) (s : State) (p page last : ℕ) (w : Bool) → Stays s.machine (visit n s p page last w).state.machine
 unfolding visit
 visit_stays zero s p page last w = stays_refl s.machine
 visit_stays (suc n) s p page last w = go (ltb last page) (region_for s.machine p (page_start page)) (next_start s.machine p page) (visit_stays n)
   where
-    left : Bool → Found → Found → Try
+    left : Bool → Option ℕ → Option ℕ → Try
     left b x y = elim b [
       | true ↦ fine s
       | false ↦ elim x [
-        | At slot ↦ and_then (populate_page s p slot page w) (λ t. visit n t p (page + 1) last w)
-        | Nothing ↦ elim y [
-          | At next ↦ visit n s p next last w
-          | Nothing ↦ fine s
+        | Some slot ↦ and_then (populate_page s p slot page w) (λ t. visit n t p (page + 1) last w)
+        | None ↦ elim y [
+          | Some next ↦ visit n s p next last w
+          | None ↦ fine s
         ]
       ]
     ]
 
-    go : (b : Bool) (x y : Found) → ((s : State) (p page last : ℕ) (w : Bool) → Stays s.machine (visit n s p page last w).state.machine) → Stays s.machine (left b x y).state.machine
+    go : (b : Bool) (x y : Option ℕ) → ((s : State) (p page last : ℕ) (w : Bool) → Stays s.machine (visit n s p page last w).state.machine) → Stays s.machine (left b x y).state.machine
     go true x y more = stays_refl s.machine
-    go false (At t) y more = then_stays s.machine (populate_page s p t page w) (λ u. visit n u p (page + 1) last w) (page_stays s p t page w) (λ u. more u p (page + 1) last w)
-    go false Nothing (At next) more = more s p next last w
-    go false Nothing Nothing more = stays_refl s.machine
+    go false (Some t) y more = then_stays s.machine (populate_page s p t page w) (λ u. visit n u p (page + 1) last w) (page_stays s p t page w) (λ u. more u p (page + 1) last w)
+    go false None (Some next) more = more s p next last w
+    go false None None more = stays_refl s.machine
 
 pub populate_stays : (s : State) (p a len : ℕ) (w : Bool) → Stays s.machine (core_populate s p a len w).state.machine
 unfolding core_populate

@@ -1,9 +1,9 @@
 -- A machine that keeps the rules in the form of Owing and owes nothing is sound.
-use Rattle.std.specs.Prelude.{◌≡◌, ◌⊎◌, ◌≢◌, true, ℕ, ◌+◌, ◌*◌, ◌/◌, ◌≤◌, ◌<◌, length, get_or}
+use Rattle.std.specs.Prelude.{◌≡◌, ◌⊎◌, ◌≢◌, true, ℕ, ◌+◌, ◌*◌, ◌/◌, ◌≤◌, ◌<◌, length, get_or, Some}
 use Rattle.std.proofs.Common.{ap, sym, subst, ◌∙◌, inl, inr, arith}
+use Rattle.laws.specs.ResultLaws.{some_same}
 use Rattle.model.specs.declared.Region.{Region}
 use Rattle.model.specs.declared.Mapping.{Mapping}
-use Rattle.model.specs.declared.Found.TheVariants.{At}
 use Rattle.laws.specs.Lists.{among}
 use Rattle.model.specs.Machine.{Machine, State, process_at, region_at, row_of, order_of, mapped_of, no_region, no_mapping}
 use Rattle.model.specs.Lookup.{regions_of}
@@ -11,7 +11,6 @@ use Rattle.model.specs.Paging.{page_start}
 use Rattle.model.specs.Backing.{backing_at, backing}
 use Rattle.model.specs.Protect.{holders_by}
 use Rattle.model.specs.Sound.{Sound, Used, Apart, R1, no_hold, holds, ProcessFits, Ordered, home_of, Homed, Flagged, frame_by}
-use Rattle.model.specs.LookupLaws.{same_slot}
 use Rattle.laws.specs.In.{In}
 use Rattle.laws.specs.InLaws.{in_at}
 use Rattle.laws.specs.InListsLaws.{in_rows, once_pairs, in_among, in_pairs}
@@ -79,21 +78,21 @@ module _ (m : Machine) (o : Owing nothing m) where
 
   -- the home and the backing of a mapping
   module _ (p : ℕ) (h : p < 8) (x : Mapping) (k : Placed m p x) where
-    home : home_of m p x ≡ At k.slot
+    home : home_of m p x ≡ Some k.slot
     home =
         listed_home m p (page_start x.page.0) k.slot (o.once p h) k.listed k.inside
         (λ t i e. home_one m o p h (page_start x.page.0) t k.slot i k.listed e k.inside)
 
-    backs : (frame_by (backing m p k.slot x.page.0) ≡ At x.frame.0) × (holders_by
+    backs : (frame_by (backing m p k.slot x.page.0) ≡ Some x.frame.0) × (holders_by
         (backing m p k.slot x.page.0) ≡ (backing_at m k.base).holders)
     backs = backing_of m p k.slot x.page.0 o.once_a_page k.base x.frame.0 k.backed
 
     homed : Homed m p x
     homed = record { slot = k.slot; home = home; frame = backs.0 }
 
-    flagged : (slot : ℕ) → home_of m p x ≡ At slot → Flagged (region_at m p slot) x.flags.0 (holders_by (backing m p slot x.page.0))
+    flagged : (slot : ℕ) → home_of m p x ≡ Some slot → Flagged (region_at m p slot) x.flags.0 (holders_by (backing m p slot x.page.0))
     flagged slot e =
-        subst (λ (t : ℕ). Flagged (region_at m p t) x.flags.0 (holders_by (backing m p t x.page.0))) (same_slot (sym home ∙ e))
+        subst (λ (t : ℕ). Flagged (region_at m p t) x.flags.0 (holders_by (backing m p t x.page.0))) (some_same (sym home ∙ e))
         (subst (λ (n : ℕ). Flagged (region_at m p k.slot) x.flags.0 n) (sym backs.1) k.flagged)
 
 pub owing_sound : (s : State) → Owing nothing s.machine → Lent s → Sound s

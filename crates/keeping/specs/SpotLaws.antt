@@ -1,5 +1,5 @@
 -- Where creation puts a region: page-aligned, below the end of user addresses, and apart from every region of the process.
-use Rattle.std.specs.Prelude.{◌≡◌, ◌⊎◌, ◌&&◌, ◌||◌, not, List, [], ◌∷◌, leb}
+use Rattle.std.specs.Prelude.{◌≡◌, ◌⊎◌, ◌&&◌, ◌||◌, not, List, [], ◌∷◌, leb, Option, Some, None}
 use Rattle.std.proofs.Math.Path.{refl, ap, sym, subst}
 use Rattle.std.proofs.Common.{◌∙◌, inl, inr, true≢false}
 use Rattle.std.proofs.Math.Bool.{Bool, true, false, cond}
@@ -7,28 +7,23 @@ use Prim.Native.Nat.{ℕ, zero, suc, ◌+◌, ◌-◌, ◌*◌, ◌%◌, ◌≤�
 use native.Mathlib.Omega.{arith}
 use Rattle.std.proofs.Math.Dec.{eqb, ltb}
 use borrow.Author.Tests.{eqb-true, eqb-false, eq-eqb, ne_eqb, ltb-false, leb-true, leb-false, not-false}
+use Rattle.laws.specs.ResultLaws.{none_not_some, some_not_none, some_same}
 use Rattle.laws.specs.TellsLaws.{told}
 use Rattle.address.specs.Pages.{aligned}
 use Rattle.segment.specs.declared.Segment.{Segment}
 use Rattle.segment.specs.Form.{start_of, overb, beforeb}
 use Rattle.segment.specs.FormLaws.{over_tells}
-use Rattle.segment_search.specs.declared.Found as sought
-use Rattle.segment_search.specs.declared.Found.TheVariants as sought_as
-use Rattle.segment_search.specs.declared.Search.{Search}
-use Rattle.segment_search.specs.declared.Search.TheVariants.{Free, Full}
 use Rattle.segment_search.specs.Search.{first_over, try, tries, search, ahead}
 use Rattle.segments.specs.Table.{insert, empty}
 use Rattle.segments.specs.PositionLaws.{held_stored}
 use Rattle.segments.specs.Calls.{segment, is_in, overlapsb, lowest}
 use Rattle.model.specs.declared.Region.{Region}
 use Rattle.model.specs.declared.Place.{Place}
-use Rattle.model.specs.declared.Found.TheVariants.{At, Nothing}
 use Rattle.model.specs.Machine.{Machine, process_at, region_at, row_of, no_region, user_end}
 use Rattle.model.specs.Lookup.{regions_of, is_used, pages_for, segment_len, segment_end}
 use Rattle.model.specs.Segments.{segments_in, segments_of, manager_of, reserved, found_start, lowest_start}
 use Rattle.model.specs.Create.{round_up, bad_place, spot}
 use Rattle.model.specs.Sound.{Used}
-use Rattle.model.specs.LookupLaws.{never_found, same_slot}
 use Rattle.laws.specs.BoolLaws.{or_none}
 use Rattle.laws.specs.In.{In}
 use Rattle.laws.specs.InLaws.{in_at, in_row, in_later}
@@ -105,32 +100,29 @@ segment_region s (x ∷ l) i = go (eqb x.kind 0) refl i (segment_region s l)
 
 -- ---- what is in the way
 
-never_in : {s : Segment} → sought_as.In s ≡ sought_as.Nothing → ⊥
-never_in {s} e = let z : ◌≡◌ {A = ℕ} 0 1 = cc in omega arith
-
-none_over : (first last : ℕ) (t : List Segment) → first_over t first last ≡ sought_as.Nothing → (s : Segment) → In s t → overb s first last ≡ false
+none_over : (first last : ℕ) (t : List Segment) → first_over t first last ≡ None → (s : Segment) → In s t → overb s first last ≡ false
 unfolding first_over
 none_over first last [] e s i = absurd i
 none_over first last (x ∷ t) e s i = go (overb x first last) refl e i (none_over first last t)
   where
-    go : (b : Bool) → overb x first last ≡ b → cond b (sought_as.In x) (first_over t first last) ≡ sought_as.Nothing → In s (x ∷ t)
-        → (first_over t first last ≡ sought_as.Nothing → (s : Segment) → In s t → overb s first last ≡ false) → overb s first last ≡ false
-    go true p q j more = absurd (never_in q)
+    go : (b : Bool) → overb x first last ≡ b → cond b (Some x) (first_over t first last) ≡ None → In s (x ∷ t)
+        → (first_over t first last ≡ None → (s : Segment) → In s t → overb s first last ≡ false) → overb s first last ≡ false
+    go true p q j more = absurd (some_not_none q)
     go false p q (inl j) more = ap (λ (y : Segment). overb y first last) j ∙ p
     go false p q (inr j) more = more q s j
 
-first_member : (first last : ℕ) (t : List Segment) (s : Segment) → first_over t first last ≡ sought_as.In s → In s t
+first_member : (first last : ℕ) (t : List Segment) (s : Segment) → first_over t first last ≡ Some s → In s t
 unfolding first_over
-first_member first last [] s e = absurd (never_in (sym e))
+first_member first last [] s e = absurd (some_not_none (sym e))
 first_member first last (x ∷ t) s e = go (overb x first last) e (first_member first last t s)
   where
-    go : (b : Bool) → cond b (sought_as.In x) (first_over t first last) ≡ sought_as.In s → (first_over t first last ≡ sought_as.In s → In s t) → In s (x ∷ t)
+    go : (b : Bool) → cond b (Some x) (first_over t first last) ≡ Some s → (first_over t first last ≡ Some s → In s t) → In s (x ∷ t)
     go true q more = let same : x ≡ s = cc in inl (sym same)
     go false q more = inr (more q)
 
 -- a start whose segment of some bytes has nothing in its way
 abbrev Clear : Machine → ℕ → ℕ → ℕ → Type 0
-Clear m p start len = first_over (segments_of m p) start (start + (len - 1)) ≡ sought_as.Nothing
+Clear m p start len = first_over (segments_of m p) start (start + (len - 1)) ≡ None
 
 module _ (d : ℕ → ℕ) (m : Machine) (o : Owing d m) (p : ℕ) (low : p < 8) where
   slot_in : (t : ℕ) → t < 64 → In (region_at m p t) (regions_of m p)
@@ -183,29 +175,26 @@ module _ (d : ℕ → ℕ) (m : Machine) (o : Owing d m) (p : ℕ) (low : p < 8)
 
 -- ---- the search
 
-never_free : {a r : ℕ} → Full ≡ Free a r → ⊥
-never_free {a} {r} e = let z : ◌≡◌ {A = ℕ} 0 1 = cc in omega arith
-
 -- what the search finds
 pub record Spot (t : List Segment) (last len a : ℕ) : Type 0 where
   pub page : a % 4096 ≡ 0
   pub fits : a + (len - 1) ≤ last
-  pub clear : first_over t a (a + (len - 1)) ≡ sought_as.Nothing
+  pub clear : first_over t a (a + (len - 1)) ≡ None
 
 module _ (t : List Segment) (ends : (s : Segment) → In s t → (start_of s + s.len) % 4096 ≡ 0) (last len : ℕ) where
-  tries_spot : (n start r a q : ℕ) → start % 4096 ≡ 0 → tries n t last len start r ≡ Free a q → Spot t last len a
+  tries_spot : (n start r a q : ℕ) → start % 4096 ≡ 0 → tries n t last len start r ≡ Some (a, q) → Spot t last len a
   unfolding tries
-  tries_spot zero start r a q z e = absurd (never_free e)
+  tries_spot zero start r a q z e = absurd (none_not_some e)
   tries_spot (suc n) start r a q z e = go (ltb last (start + (len - 1))) refl (first_over t start (start + (len - 1))) refl e (tries_spot n)
     where
-      go : (b : Bool) → ltb last (start + (len - 1)) ≡ b → (f : sought.Found) → first_over t start (start + (len - 1)) ≡ f
-          → try (tries n t last len) b f start r ≡ Free a q
-          → ((start r a q : ℕ) → start % 4096 ≡ 0 → tries n t last len start r ≡ Free a q → Spot t last len a) → Spot t last len a
-      go true u f v w more = absurd (never_free w)
-      go false u sought_as.Nothing v w more =
-          let same : start ≡ a = cc in
+      go : (b : Bool) → ltb last (start + (len - 1)) ≡ b → (f : Option Segment) → first_over t start (start + (len - 1)) ≡ f
+          → try (tries n t last len) b f start r ≡ Some (a, q)
+          → ((start r a q : ℕ) → start % 4096 ≡ 0 → tries n t last len start r ≡ Some (a, q) → Spot t last len a) → Spot t last len a
+      go true u f v w more = absurd (none_not_some w)
+      go false u None v w more =
+          let same = ap (λ x. x.0) (some_same w) in
           subst (λ (x : ℕ). Spot t last len x) same (record { page = z; fits = ltb-false last (start + (len - 1)) u; clear = v })
-      go false u (sought_as.In s) v w more = more (start_of s + s.len) (r + 1) a q (ends s (first_member start (start + (len - 1)) t s v)) w
+      go false u (Some s) v w more = more (start_of s + s.len) (r + 1) a q (ends s (first_member start (start + (len - 1)) t s v)) w
 
 -- ---- the spot of a new region
 
@@ -215,29 +204,29 @@ pub record Room (m : Machine) (p start size : ℕ) : Type 0 where
   pub ends : start + round_up size ≤ user_end
   pub clear : Clear m p start (round_up size)
 
-found_free : (x : Search) (a : ℕ) → found_start x ≡ At a → (r : ℕ) × (x ≡ Free a r)
-found_free Full a e = absurd (never_found e)
-found_free (Free b r) a e = (r, ap (λ (y : ℕ). Free y r) (same_slot e))
+found_free : (x : Option (ℕ × ℕ)) (a : ℕ) → found_start x ≡ Some a → (r : ℕ) × (x ≡ Some (a, r))
+found_free None a e = absurd (none_not_some e)
+found_free (Some (b, r)) a e = (r, ap (λ (y : ℕ). Some (y, r)) (some_same e))
 
 module _ (d : ℕ → ℕ) (m : Machine) (o : Owing d m) (p : ℕ) (opened : (process_at m p).opened ≡ 1) (size : ℕ) (some : 1 ≤ size) where
   low : p < 8
   low = open_low m o p opened
 
-  lowest_room : (a : ℕ) → lowest_start m p (round_up size) ≡ At a → Room m p a size
+  lowest_room : (a : ℕ) → lowest_start m p (round_up size) ≡ Some a → Room m p a size
   unfolding lowest_start lowest manager_of search
   lowest_room a e =
       let found = found_free (lowest (manager_of m p) (round_up size)) a e in
       let table = held_stored (empty (process_at m p).start (process_at m p).size) (segments_of m p) in
-      go too_long refl found.0 (ap (λ t. cond too_long Full (sought_in t)) (sym table) ∙ found.1)
+      go too_long refl found.0 (ap (λ t. cond too_long None (sought_in t)) (sym table) ∙ found.1)
     where
       too_long : Bool
       too_long = eqb (round_up size) 0 || ltb (process_at m p).size (round_up size)
 
-      sought_in : List Segment → Search
+      sought_in : List Segment → Option (ℕ × ℕ)
       sought_in t = search t ((process_at m p).start.0 + ((process_at m p).size - 1)) (round_up size) (process_at m p).start.0 0
 
-      go : (b : Bool) → too_long ≡ b → (r : ℕ) → cond b Full (sought_in (segments_of m p)) ≡ Free a r → Room m p a size
-      go true u r w = absurd (never_free w)
+      go : (b : Bool) → too_long ≡ b → (r : ℕ) → cond b None (sought_in (segments_of m p)) ≡ Some (a, r) → Room m p a size
+      go true u r w = absurd (none_not_some w)
       go false u r w =
           let arena = o.arenas p low in
           let begin = eqb-true ((process_at m p).start.0 % 4096) 0 arena.aligned_start in
@@ -256,21 +245,21 @@ module _ (d : ℕ → ℕ) (m : Machine) (o : Owing d m) (p : ℕ) (opened : (pr
       go (first_over (segments_of m p) a (a + (round_up size - 1))) refl
       (subst (λ (b : Bool). (not b && is_in (first_over (segments_of m p) a (a + (round_up size - 1)))) ≡ false) (ne_eqb (round_up size) 0 (λ z. omega arith)) e)
     where
-      go : (f : sought.Found) → first_over (segments_of m p) a (a + (round_up size - 1)) ≡ f
-          → is_in (first_over (segments_of m p) a (a + (round_up size - 1))) ≡ false → f ≡ sought_as.Nothing
-      go sought_as.Nothing u w = refl
-      go (sought_as.In s) u w = absurd (true≢false (ap is_in (sym u) ∙ w))
+      go : (f : Option Segment) → first_over (segments_of m p) a (a + (round_up size - 1)) ≡ f
+          → is_in (first_over (segments_of m p) a (a + (round_up size - 1))) ≡ false → f ≡ None
+      go None u w = refl
+      go (Some s) u w = absurd (true≢false (ap is_in (sym u) ∙ w))
 
   -- a given start, or the lowest free one
-  pub spot_room : (place : Place) → bad_place place size ≡ false → (a : ℕ) → spot m p place (round_up size) ≡ At a → Room m p a size
+  pub spot_room : (place : Place) → bad_place place size ≡ false → (a : ℕ) → spot m p place (round_up size) ≡ Some a → Room m p a size
   spot_room Place.Lowest bad a e = lowest_room a e
   spot_room (Place.At x) bad a e = go (reserved m p x.0 (round_up size)) refl e
     where
-      go : (b : Bool) → reserved m p x.0 (round_up size) ≡ b → cond b Nothing (At x.0) ≡ At a → Room m p a size
-      go true u w = absurd (never_found w)
+      go : (b : Bool) → reserved m p x.0 (round_up size) ≡ b → cond b None (Some x.0) ≡ Some a → Room m p a size
+      go true u w = absurd (none_not_some w)
       go false u w =
           let b = or_none (not (aligned x.0)) (ltb user_end (x.0 + round_up size)) bad in
-          subst (λ (y : ℕ). Room m p y size) (same_slot w) (record {
+          subst (λ (y : ℕ). Room m p y size) (some_same w) (record {
             page = not-false _ b.0;
             ends = ltb-false user_end (x.0 + round_up size) b.1;
             clear = unreserved x.0 u;

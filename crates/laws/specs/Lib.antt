@@ -18,3 +18,4 @@ pub mod Loops
 pub mod LoopLaws
 pub mod Rows
 pub mod RowsLaws
+pub mod ResultLaws

@@ -1,15 +1,11 @@
 -- Laws of `Attached`: a process's attached regions, in list order: how many there are, which slot stands where, and the search for one at an address.
-use Rattle.std.specs.Prelude.{◌≡◌, refl, Bool, true, false, cond, List, ℕ, ◌+◌, ◌-◌, ◌*◌, ◌≤◌, ◌<◌, get_or, take, ltb}
+use Rattle.std.specs.Prelude.{◌≡◌, refl, Bool, true, false, cond, List, ℕ, ◌+◌, ◌-◌, ◌*◌, ◌≤◌, ◌<◌, get_or, take, ltb, Option, Some, None}
 use Rattle.std.proofs.Math.Path.{ap, sym}
-use Rattle.std.proofs.Common.{◌∙◌, take_all, ltb-true, ltb-false, lt-ltb, le-ltb, le-leb, eq-eqb, ne_eqb}
+use Rattle.std.proofs.Common.{min, length-take, ◌∙◌, ltb-true, ltb-false, lt-ltb, le-ltb, le-leb}
 use native.Mathlib.Omega.{arith}
 use Rattle.std.proofs.Math.ListN.{length, get_or-eq_default}
-use Rattle.std.proofs.Math.Seq.{length-take-le}
-use Rattle.std.proofs.lemmas.Bool.{lt-leb}
 use Rattle.model.specs.declared.Process.{Process}
 use Rattle.model.specs.declared.Region.{Region}
-use Rattle.model.specs.declared.Found.{Found}
-use Rattle.model.specs.declared.Found.TheVariants.{At, Nothing}
 use Rattle.laws.specs.Loops.{Remains}
 use Rattle.laws.specs.LoopLaws.{loop_found, loop_more, loop_none}
 use Rattle.laws.specs.Lists.{part}
@@ -18,18 +14,11 @@ use Rattle.model.specs.Machine.{Machine, no_process, no_region, region_at, order
 use Rattle.model.specs.Lookup.{first_slot, contains}
 use Rattle.laws.specs.ListsLaws.{part_length, part_at}
 use Rattle.lookup.specs.LookupsLaws.{regions_length, order_length}
-use Rattle.lookup.specs.Attached.{used_at}
 use Rattle.laws.specs.FirstRowsLaws.{taken_at}
 
 -- whether the region in a slot of a process holds an address
 abbrev pub holds_at : Machine → ℕ → ℕ → ℕ → Bool
 holds_at m p a s = contains (region_at m p s) a
-
-pub unused_not : (r : Region) (a : ℕ) → r.kind ≡ 0 → false ≡ used_at a r
-unused_not r a p = rw (eq-eqb r.kind 0 p)
-
-pub used_contains : (r : Region) (a : ℕ) (b : Bool) → (r.kind ≡ 0 → ⊥) → b ≡ contains r a → b ≡ used_at a r
-used_contains r a b n p = rw (ne_eqb r.kind 0 n) p
 
 -- whether a region holds an address, with no sum that could be too large
 pub contains_past : (r : Region) (a : ℕ) → r.start.0 ≤ a → ltb (a - r.start.0) r.size ≡ contains r a
@@ -38,9 +27,6 @@ contains_past r a h = rw (le-leb r.start.0 a h) (go (ltb a (r.start.0 + r.size))
     go : (b : Bool) → ltb a (r.start.0 + r.size) ≡ b → ltb (a - r.start.0) r.size ≡ ltb a (r.start.0 + r.size)
     go true e = let l = ltb-true a (r.start.0 + r.size) e in lt-ltb (a - r.start.0) r.size (omega arith) ∙ sym e
     go false e = let l = ltb-false a (r.start.0 + r.size) e in le-ltb (a - r.start.0) r.size (omega arith) ∙ sym e
-
-pub contains_before : (r : Region) (a : ℕ) → a < r.start.0 → false ≡ contains r a
-contains_before r a h = rw (lt-leb r.start.0 a h)
 
 -- past the last row there is no region, and so no address in it
 pub contains_no_row : (w : List ℕ) (p s a : ℕ) → 512 ≤ p * 64 + s → false ≡ contains (region_at (machine w) p s) a
@@ -53,14 +39,13 @@ pub places_length : (w : List ℕ) (p : ℕ) → p < 8 → length (part 64 p (ma
 places_length w p h = part_length (machine w).order 64 p (rw order_length (omega arith))
 
 module _ (w : List ℕ) (p : ℕ) (h : p < 8) (q : Process) (read : q ≡ get_or (machine w).processes p no_process) where
-  pub attached_some : q.attached < 64 → q.attached ≡ length (order_of (machine w) p)
+  pub attached_min : (r : ℕ) → r ≡ min q.attached 64 → r ≡ length (order_of (machine w) p)
   unfolding order_of
-  attached_some l = sym (ap (λ (x : Process). length (take x.attached (part 64 p (machine w).order))) (sym read) ∙ length-take-le q.attached (part 64 p (machine w).order) (rw places_length (omega arith)))
-
-  pub attached_all : 64 ≤ q.attached → 64 ≡ length (order_of (machine w) p)
-  unfolding order_of
-  attached_all l =
-      sym (ap (λ (x : Process). length (take x.attached (part 64 p (machine w).order))) (sym read) ∙ ap (λ x. length x) (take_all q.attached (part 64 p (machine w).order) (rw places_length (omega arith))) ∙ places_length w p h)
+  attached_min r e =
+      e
+      ∙ ap (λ (n : ℕ). min q.attached n) (sym (places_length w p h))
+      ∙ sym (length-take q.attached (part 64 p (machine w).order))
+      ∙ ap (λ (x : Process). length (take x.attached (part 64 p (machine w).order))) read
 
 -- the slot at place i of list order
 pub order_slot :
@@ -81,17 +66,17 @@ Looked f l i = (i ≤ length l) × Remains (first_slot f) l i (first_slot f l)
 
 module _ (f : ℕ → Bool) (l : List ℕ) (n : ℕ) (sized : n ≡ length l) (i : ℕ) (s : Looked f l i) where
   -- slot x is the first, or those past it say
-  abbrev slot_by : Bool → ℕ → List ℕ → Found
-  slot_by b x t = cond b (At x) (first_slot f t)
+  abbrev slot_by : Bool → ℕ → List ℕ → Option ℕ
+  slot_by b x t = cond b (Some x) (first_slot f t)
 
-  pub look_found : i < n → (x : ℕ) → x ≡ get_or l i 0 → f x ≡ true → At x ≡ first_slot f l
+  pub look_found : i < n → (x : ℕ) → x ≡ get_or l i 0 → f x ≡ true → Some x ≡ first_slot f l
   unfolding first_slot
-  look_found h x e p = loop_found (first_slot f) l i (first_slot f l) s.1 (omega arith) 0 x e (At x) (λ t. ap (λ (b : Bool). slot_by b x t) p)
+  look_found h x e p = loop_found (first_slot f) l i (first_slot f l) s.1 (omega arith) 0 x e (Some x) (λ t. ap (λ (b : Bool). slot_by b x t) p)
 
   pub look_more : i < n → (x : ℕ) → x ≡ get_or l i 0 → f x ≡ false → Looked f l (i + 1)
   unfolding first_slot
   look_more h x e p = (omega arith, loop_more (first_slot f) l i (first_slot f l) s.1 (omega arith) 0 x e (first_slot f) (λ t. ap (λ (b : Bool). slot_by b x t) p))
 
-  pub look_all : n ≤ i → Nothing ≡ first_slot f l
+  pub look_all : n ≤ i → None ≡ first_slot f l
   unfolding first_slot
   look_all h = loop_none (first_slot f) l i (first_slot f l) s.1 (omega arith)

@@ -1,18 +1,16 @@
 -- What backs a page: the backing at any frame number, and the two ways of the model's `backing`, by the page entry and by the range.
-use Rattle.std.specs.Prelude.{◌&&◌, cond, ℕ, ◌+◌, ◌-◌, ◌/◌, get_or, ltb}
+use Rattle.std.specs.Prelude.{◌&&◌, cond, ℕ, ◌+◌, ◌-◌, ◌/◌, get_or, ltb, Option, Some, None}
 use Rattle.model.specs.declared.Region.{Region}
 use Rattle.model.specs.declared.Backed.{Backed}
 use Rattle.model.specs.declared.Backed.TheVariants.{ByEntry, ByRange, Unbacked}
-use Rattle.model.specs.declared.Found.{Found}
-use Rattle.model.specs.declared.Found.TheVariants.{At, Nothing}
 use Rattle.model.specs.Machine.{Machine, no_entry}
 use Rattle.model.specs.Lookup.{is_ranged}
 use Rattle.model.specs.Backing.{backing_at}
 
 -- by the entry in the row found
-abbrev pub by_entry : Machine → Found → Backed
-by_entry m Nothing = Unbacked
-by_entry m (At i) = ByEntry i (get_or m.entries i no_entry).frame (backing_at m (get_or m.entries i no_entry).frame.0).holders
+abbrev pub by_entry : Machine → Option ℕ → Backed
+by_entry m None = Unbacked
+by_entry m (Some i) = ByEntry i (get_or m.entries i no_entry).frame (backing_at m (get_or m.entries i no_entry).frame.0).holders
 
 -- how many pages a page lies past a region's first
 abbrev pub pages_past : Region → ℕ → ℕ

@@ -1,5 +1,5 @@
 -- Laws of `Backed`: what backs a page: the backing at any frame number, and the two ways of the model's `backing`, by the page entry and by the range.
-use Rattle.std.specs.Prelude.{◌≡◌, Bool, true, false, ◌&&◌, cond, List, ℕ, ◌+◌, ◌≤◌, ◌<◌, get_or, ltb}
+use Rattle.std.specs.Prelude.{◌≡◌, Bool, true, false, ◌&&◌, cond, List, ℕ, ◌+◌, ◌≤◌, ◌<◌, get_or, ltb, Option, Some, None}
 use Rattle.std.proofs.Math.Path.{refl}
 use Rattle.std.proofs.Common.{ap, sym, ◌∙◌, arith, eq-eqb, ne_eqb, lt-ltb, le-ltb, ltb-true, ltb-false}
 use Rattle.std.proofs.Math.ListN.{get_or-eq_default}
@@ -8,8 +8,6 @@ use Rattle.model.specs.declared.Entry.{Entry}
 use Rattle.model.specs.declared.Backing.{Backing}
 use Rattle.model.specs.declared.Backed.{Backed}
 use Rattle.model.specs.declared.Backed.TheVariants.{ByEntry, ByRange, Unbacked}
-use Rattle.model.specs.declared.Found.{Found}
-use Rattle.model.specs.declared.Found.TheVariants.{At, Nothing}
 use Rattle.model.specs.Layout.{machine}
 use Rattle.model.specs.Machine.{Machine, no_entry, no_backing, region_at, row_of}
 use Rattle.model.specs.Lookup.{is_ranged}
@@ -25,9 +23,9 @@ module _ (m : Machine) (p s page : ℕ) where
   unfolding backing
   backing_is = go (entry_for m (row_of p s) page) refl
     where
-      go : (f : Found) → entry_for m (row_of p s) page ≡ f → else_by (by_entry m (entry_for m (row_of p s) page)) (by_range m (region_at m p s) page) ≡ backing m p s page
-      go Nothing e = rw e refl
-      go (At i) e = rw e refl
+      go : (f : Option ℕ) → entry_for m (row_of p s) page ≡ f → else_by (by_entry m (entry_for m (row_of p s) page)) (by_range m (region_at m p s) page) ≡ backing m p s page
+      go None e = rw e refl
+      go (Some i) e = rw e refl
 
   pub backing_by : (x : Backed) → x ≡ by_entry m (entry_for m (row_of p s) page) → (r : Region) → r ≡ region_at m p s → (y : Backed) → y ≡ by_range m r page → else_by x y ≡ backing m p s page
   backing_by x entry r row y range =
@@ -46,7 +44,7 @@ backing_row w f n h = go (ltb f 256) refl
     go false e = let none = ap (λ (b : Backing). b.len) (no_backing_past w f (ltb-false f 256 e)) in absurd (omega arith)
 
 -- the row of a search's first hit is one of the list's
-pub entry_row : (w : List ℕ) (row page i : ℕ) → At i ≡ entry_for (machine w) row page → i < 512
+pub entry_row : (w : List ℕ) (row page i : ℕ) → Some i ≡ entry_for (machine w) row page → i < 512
 unfolding entry_for
 entry_row w row page i e = let below = (first_found (entry_of (row + 1) page) (machine w).entries i no_entry (sym e)).0 in let sized = entries_length w in omega arith
 
@@ -78,5 +76,5 @@ frame_fits w f n b e h few =
     omega arith
 
 -- an entry found and its backing
-pub entry_backed : (m : Machine) (f : Found) (i : ℕ) → At i ≡ f → (e : Entry) → e ≡ get_or m.entries i no_entry → (b : Backing) → b ≡ backing_at m e.frame.0 → ByEntry i e.frame b.holders ≡ by_entry m f
-entry_backed m f i found e same b read = ap (λ (x : Backing). ByEntry i e.frame x.holders) read ∙ ap (λ (x : Entry). ByEntry i x.frame (backing_at m x.frame.0).holders) same ∙ ap (λ (x : Found). by_entry m x) found
+pub entry_backed : (m : Machine) (f : Option ℕ) (i : ℕ) → Some i ≡ f → (e : Entry) → e ≡ get_or m.entries i no_entry → (b : Backing) → b ≡ backing_at m e.frame.0 → ByEntry i e.frame b.holders ≡ by_entry m f
+entry_backed m f i found e same b read = ap (λ (x : Backing). ByEntry i e.frame x.holders) read ∙ ap (λ (x : Entry). ByEntry i x.frame (backing_at m x.frame.0).holders) same ∙ ap (λ (x : Option ℕ). by_entry m x) found

@@ -1,11 +1,10 @@
 -- Refusals test by test: the first test that is true gives its refusal; and the test for an open process.
-use Rattle.std.specs.Prelude.{◌≡◌, refl, Bool, true, false, not, cond, List, [], ◌∷◌, ◌++◌, ℕ, ◌≤◌, ◌<◌, get_or, eqb, ltb}
-use Rattle.std.proofs.Common.{ap, sym, ◌∙◌, arith, ltb-true, ltb-false}
+use Rattle.std.specs.Prelude.{◌≡◌, refl, Bool, true, false, not, cond, List, [], ◌∷◌, ◌++◌, ℕ, ◌≤◌, ◌<◌, get_or, eqb, ltb, Result, Ok, Err, ⊤}
+use Rattle.std.proofs.Common.{ap, sym, ◌∙◌, ltb-true, ltb-false}
 use Rattle.std.proofs.lemmas.Bool.{false≢true}
 use Rattle.std.proofs.Math.ListN.{get_or-eq_default}
+use Rattle.laws.specs.ResultLaws.{ok_not_err}
 use Rattle.answers.specs.declared.Refusal.{Refusal}
-use Rattle.model.specs.declared.Done.{Done}
-use Rattle.model.specs.declared.Done.TheVariants.{Yes, No}
 use Rattle.model.specs.declared.Process.{Process}
 use Rattle.model.specs.Layout.{machine}
 use Rattle.model.specs.Machine.{no_process}
@@ -15,15 +14,15 @@ use Rattle.model.specs.VisitLaws.{first_yes}
 use Rattle.lookup.specs.LookupsLaws.{processes_length}
 
 -- the first test is true, or it is not and the others decide
-pub first_here : (b : Bool) (r : Refusal) (l : List (Bool × Refusal)) → b ≡ true → No r ≡ first_of ((b, r) ∷ l)
+pub first_here : (b : Bool) (r : Refusal) (l : List (Bool × Refusal)) → b ≡ true → Err r ≡ first_of ((b, r) ∷ l)
 unfolding first_of
 first_here b r l p = rw p refl
 
-pub first_later : (b : Bool) (r : Refusal) (l : List (Bool × Refusal)) (d : Done) → b ≡ false → d ≡ first_of l → d ≡ first_of ((b, r) ∷ l)
+pub first_later : (b : Bool) (r : Refusal) (l : List (Bool × Refusal)) (d : Result ⊤ Refusal) → b ≡ false → d ≡ first_of l → d ≡ first_of ((b, r) ∷ l)
 unfolding first_of
 first_later b r l d p e = rw p e
 
-pub first_none : Yes ≡ first_of []
+pub first_none : Ok tt ≡ first_of []
 unfolding first_of
 first_none = refl
 
@@ -33,31 +32,28 @@ not_no b p = rw p refl
 pub not_yes : (b : Bool) → b ≡ true → not b ≡ false
 not_yes b p = rw p refl
 
-pub no_refusal : {r : Refusal} → Yes ≡ No r → ⊥
-no_refusal {r} e = let z : ◌≡◌ {A = ℕ} 0 1 = cc in omega arith
-
 -- where nothing refuses, the first test is false and nothing else refuses
-pub first_passed : (b : Bool) (r : Refusal) (l : List (Bool × Refusal)) → Yes ≡ first_of ((b, r) ∷ l) → (b ≡ false) × (Yes ≡ first_of l)
+pub first_passed : (b : Bool) (r : Refusal) (l : List (Bool × Refusal)) → Ok tt ≡ first_of ((b, r) ∷ l) → (b ≡ false) × (Ok tt ≡ first_of l)
 first_passed b r l e = let p = first_yes b r l (sym e) in (p.0, sym p.1)
 
 -- tests before others, and after others
 
-pub first_before : (l k : List (Bool × Refusal)) (q : Refusal) → No q ≡ first_of l → No q ≡ first_of (l ++ k)
+pub first_before : (l k : List (Bool × Refusal)) (q : Refusal) → Err q ≡ first_of l → Err q ≡ first_of (l ++ k)
 unfolding first_of
-first_before [] k q e = absurd (no_refusal (sym e))
+first_before [] k q e = absurd (ok_not_err (sym e))
 first_before (t ∷ l) k q e = go t.0 e (first_before l k q)
   where
-    go : (b : Bool) → No q ≡ cond b (No t.1) (first_of l) → (No q ≡ first_of l → No q ≡ first_of (l ++ k)) → No q ≡ cond b (No t.1) (first_of (l ++ k))
+    go : (b : Bool) → Err q ≡ cond b (Err t.1) (first_of l) → (Err q ≡ first_of l → Err q ≡ first_of (l ++ k)) → Err q ≡ cond b (Err t.1) (first_of (l ++ k))
     go true f ih = f
     go false f ih = ih f
 
-pub first_after : (l k : List (Bool × Refusal)) → Yes ≡ first_of l → first_of k ≡ first_of (l ++ k)
+pub first_after : (l k : List (Bool × Refusal)) → Ok tt ≡ first_of l → first_of k ≡ first_of (l ++ k)
 unfolding first_of
 first_after [] k e = refl
 first_after (t ∷ l) k e = go t.0 e (first_after l k)
   where
-    go : (b : Bool) → Yes ≡ cond b (No t.1) (first_of l) → (Yes ≡ first_of l → first_of k ≡ first_of (l ++ k)) → first_of k ≡ cond b (No t.1) (first_of (l ++ k))
-    go true f ih = absurd (no_refusal f)
+    go : (b : Bool) → Ok tt ≡ cond b (Err t.1) (first_of l) → (Ok tt ≡ first_of l → first_of k ≡ first_of (l ++ k)) → first_of k ≡ cond b (Err t.1) (first_of (l ++ k))
+    go true f ih = absurd (ok_not_err f)
     go false f ih = ih f
 
 -- ---- an open process

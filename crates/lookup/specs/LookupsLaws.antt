@@ -1,14 +1,13 @@
 -- Laws of `Lookups`: what the look-ups look for, and the tables that they look through: processes, page entries, a process's slots.
-use Rattle.std.specs.Prelude.{◌≡◌, Bool, false, cond, List, ℕ, ◌+◌, ◌*◌, ◌<◌, length, get_or, eqb}
-use Rattle.std.proofs.Common.{sym, ◌∙◌, arith, eq-eqb, ne_eqb}
+use Rattle.std.specs.Prelude.{refl, Option, Some, None, is_some, ◌≡◌, Bool, List, ℕ, ◌+◌, ◌*◌, ◌<◌, length, get_or, eqb}
+use Rattle.std.proofs.Common.{sym, ◌∙◌, arith}
 use Rattle.model.specs.declared.Process.{Process}
 use Rattle.model.specs.declared.Region.{Region}
 use Rattle.model.specs.declared.Entry.{Entry}
 use Rattle.laws.specs.RowsLaws.{rows_length}
 use Rattle.model.specs.Layout.{machine}
 use Rattle.model.specs.Machine.{no_region}
-use Rattle.model.specs.Lookup.{regions_of}
-use Rattle.lookup.specs.Lookups.{entry_of}
+use Rattle.model.specs.Lookup.{is_found, regions_of}
 use Rattle.laws.specs.ListsLaws.{part_length, part_at}
 
 abbrev pub closed : Process → Bool
@@ -54,14 +53,7 @@ slots_length w p h = part_length (machine w).regions 64 p (rw regions_length (om
 pub slot_at : (w : List ℕ) (p s : ℕ) (r : Region) → s < 64 → r ≡ get_or (machine w).regions (p * 64 + s) no_region → r ≡ get_or (regions_of (machine w) p) s no_region
 slot_at w p s r h e = e ∙ sym (part_at (machine w).regions 64 p s no_region h)
 
-pub same_owner : (e : Entry) (owner page : ℕ) → e.owner ≡ owner → eqb e.page.0 page ≡ entry_of owner page e
-same_owner e owner page p = rw (eq-eqb e.owner owner p)
-
-pub other_owner : (e : Entry) (owner page : ℕ) → (e.owner ≡ owner → ⊥) → false ≡ entry_of owner page e
-other_owner e owner page n = rw (ne_eqb e.owner owner n)
-
-pub counts_one : (x : ℕ) → x ≡ 0 → ◌≡◌ {A = ℕ} 1 (cond (eqb x 0) 1 0)
-counts_one x p = rw (eq-eqb x 0 p)
-
-pub counts_none : (x : ℕ) → (x ≡ 0 → ⊥) → ◌≡◌ {A = ℕ} 0 (cond (eqb x 0) 1 0)
-counts_none x n = rw (ne_eqb x 0 n)
+-- whether a look-up found something, as std's `is_some` tells it
+pub some_found : (o : Option ℕ) → is_some o ≡ is_found o
+some_found None = refl
+some_found (Some i) = refl

@@ -1,17 +1,15 @@
 -- A walk with `next_entry`, from page 0 and on from each page that is found, lists the model's single_pages.
-use Rattle.std.specs.Prelude.{◌≢◌, ◌≡◌, Bool, ◌&&◌, ℕ, suc, ◌+◌, ◌-◌, ◌≤◌, ◌<◌, length, get_or, drop, ltb, leb}
+use Rattle.std.specs.Prelude.{◌≢◌, ◌≡◌, Bool, ◌&&◌, ℕ, suc, ◌+◌, ◌-◌, ◌≤◌, ◌<◌, length, get_or, drop, ltb, leb, Option, Some, None}
 use Rattle.std.proofs.Math.Path.{refl, ap, sym}
 use Rattle.std.proofs.Common.{subst, ◌∙◌, true≢false, arith, length-drop, ltb-true, leb-true, leb-false, eqb-true, eq-eqb, lt-ltb, le-ltb, le-leb}
 use Rattle.std.proofs.Math.Bool.{true, false, cond}
 use mathlib.Core.List.{List, [], ◌∷◌}
 use Rattle.std.proofs.Math.Dec.{eqb}
 use Rattle.std.proofs.lemmas.Bool.{lt-leb}
+use Rattle.laws.specs.ResultLaws.{none_not_some, some_same}
 use Rattle.model.specs.declared.Entry.{Entry}
-use Rattle.model.specs.declared.Found.{Found}
-use Rattle.model.specs.declared.Found.TheVariants.{At, Nothing}
 use Rattle.laws.specs.Lists.{keep}
 use Rattle.model.specs.Machine.{no_entry}
-use Rattle.model.specs.LookupLaws.{never_found, same_slot}
 use Rattle.model.specs.Clone.{Held, in_order, single_pages}
 use Rattle.lookup.specs.NextEntry.{entry_from, not_after, next_from, next_entry, held_of, OnceAPage}
 use Rattle.lookup.specs.NextEntryLaws.{next_within, Lowest, lowest_from, is_from, not_from, first_is, rest_is}
@@ -112,16 +110,16 @@ in_up_to owner k m e h q = rw (eq-eqb e.owner owner (is_from owner k e q).0, le-
 -- ---- the walk
 
 module _ (t : List Entry) (row k : ℕ) where
-  pages_none : (l : List Entry) (i : ℕ) → next_from t (row + 1) k l i ≡ Nothing → pages_from k l row ≡ []
+  pages_none : (l : List Entry) (i : ℕ) → next_from t (row + 1) k l i ≡ None → pages_from k l row ≡ []
   unfolding next_from single_pages keep
   pages_none [] i p = refl
   pages_none (e ∷ l) i p = go (entry_from (row + 1) k e) refl (next_from t (row + 1) k l (i + 1)) (not_after t e.page.0 (next_from t (row + 1) k l (i + 1))) refl p (pages_none l (i + 1))
     where
-      go : (b : Bool) → entry_from (row + 1) k e ≡ b → (f : Found) (c : Bool) → not_after t e.page.0 f ≡ c → cond (b && c) (At i) f ≡ Nothing → (f ≡ Nothing → pages_from k l row ≡ []) → pages_from k (e ∷ l) row ≡ []
+      go : (b : Bool) → entry_from (row + 1) k e ≡ b → (f : Option ℕ) (c : Bool) → not_after t e.page.0 f ≡ c → cond (b && c) (Some i) f ≡ None → (f ≡ None → pages_from k l row ≡ []) → pages_from k (e ∷ l) row ≡ []
       go false q f c n r rest = pages_out row k e l q ∙ rest r
-      go true q f true n r rest = absurd (never_found (sym r))
-      go true q Nothing false n r rest = absurd (true≢false n)
-      go true q (At j) false n r rest = absurd (never_found (sym r))
+      go true q f true n r rest = absurd (none_not_some (sym r))
+      go true q None false n r rest = absurd (true≢false n)
+      go true q (Some j) false n r rest = absurd (none_not_some (sym r))
 
   -- x is the first page of l from page k on
   abbrev FirstPage : List Entry → Entry → Type 0
@@ -158,20 +156,20 @@ module _ (t : List Entry) (row k : ℕ) where
       pages_out row k e l q ∙ rest ∙ ap (λ y. held_of x ∷ y) (sym (pages_out row (x.page.0 + 1) e l (out_later (row + 1) k (x.page.0 + 1) e (omega arith) q)))
 
   module _ (once : OnceAPage t) where
-    pages_found : (l : List Entry) (i : ℕ) → drop i t ≡ l → (j : ℕ) → next_from t (row + 1) k l i ≡ At j → FirstPage l (get_or t j no_entry)
+    pages_found : (l : List Entry) (i : ℕ) → drop i t ≡ l → (j : ℕ) → next_from t (row + 1) k l i ≡ Some j → FirstPage l (get_or t j no_entry)
     unfolding next_from
-    pages_found [] i here j p = absurd (never_found p)
+    pages_found [] i here j p = absurd (none_not_some p)
     pages_found (e ∷ l) i here j p =
         go (entry_from (row + 1) k e) refl (next_from t (row + 1) k l (i + 1)) refl (not_after t e.page.0 (next_from t (row + 1) k l (i + 1))) refl p (pages_none l (i + 1)) (pages_found l (i + 1) (rest_is t i e l here))
       where
-        lowest : (m : ℕ) → next_from t (row + 1) k l (i + 1) ≡ At m → Lowest (row + 1) k l (get_or t m no_entry)
+        lowest : (m : ℕ) → next_from t (row + 1) k l (i + 1) ≡ Some m → Lowest (row + 1) k l (get_or t m no_entry)
         lowest m s = lowest_from t (row + 1) k l (i + 1) (rest_is t i e l here) m s
 
         is_first : i ≡ j → FirstPage (e ∷ l) e → FirstPage (e ∷ l) (get_or t j no_entry)
         is_first same x = subst (λ (y : Entry). FirstPage (e ∷ l) y) (sym (first_is t i e l here) ∙ ap (λ (n : ℕ). get_or t n no_entry) same) x
 
         -- rows i and m are two rows of one region
-        other_page : (m : ℕ) → next_from t (row + 1) k l (i + 1) ≡ At m → e.owner ≡ row + 1 → e.page.0 ≢ (get_or t m no_entry).page.0
+        other_page : (m : ℕ) → next_from t (row + 1) k l (i + 1) ≡ Some m → e.owner ≡ row + 1 → e.page.0 ≢ (get_or t m no_entry).page.0
         other_page m s o same =
             let within = next_within t (row + 1) k l (i + 1) m s in
             let above = within.0 in
@@ -183,16 +181,16 @@ module _ (t : List Entry) (row k : ℕ) where
             let owned = (lowest m s).owned in
             once i m (omega arith) (omega arith) (λ z. let none = sym o ∙ sym owner ∙ z in omega arith) (owner ∙ o ∙ sym owned) (page ∙ same)
 
-        go : (b : Bool) → entry_from (row + 1) k e ≡ b → (f : Found) → next_from t (row + 1) k l (i + 1) ≡ f → (c : Bool) → not_after t e.page.0 f ≡ c → cond (b && c) (At i) f ≡ At j → (f ≡ Nothing → pages_from k l row ≡ []) → ((m : ℕ) → f ≡ At m → FirstPage l (get_or t m no_entry)) → FirstPage (e ∷ l) (get_or t j no_entry)
+        go : (b : Bool) → entry_from (row + 1) k e ≡ b → (f : Option ℕ) → next_from t (row + 1) k l (i + 1) ≡ f → (c : Bool) → not_after t e.page.0 f ≡ c → cond (b && c) (Some i) f ≡ Some j → (f ≡ None → pages_from k l row ≡ []) → ((m : ℕ) → f ≡ Some m → FirstPage l (get_or t m no_entry)) → FirstPage (e ∷ l) (get_or t j no_entry)
         go false q f s c n r none rest = first_other e l (get_or t j no_entry) q (lowest j (s ∙ r)).from (rest j r)
-        go true q Nothing s true n r none rest = is_first (same_slot r) (first_alone e l q (none refl))
-        go true q (At m) s true n r none rest =
+        go true q None s true n r none rest = is_first (some_same r) (first_alone e l q (none refl))
+        go true q (Some m) s true n r none rest =
             let before = leb-true e.page.0 (get_or t m no_entry).page.0 n in
             let other = other_page m s (is_from (row + 1) k e q).0 in
-            is_first (same_slot r) (first_before e l (get_or t m no_entry) q (omega arith) (rest m refl))
-        go true q Nothing s false n r none rest = absurd (true≢false n)
-        go true q (At m) s false n r none rest =
-            let after = leb-false e.page.0 (get_or t j no_entry).page.0 (ap (λ (x : ℕ). leb e.page.0 (get_or t x no_entry).page.0) (sym (same_slot r)) ∙ n) in
+            is_first (some_same r) (first_before e l (get_or t m no_entry) q (omega arith) (rest m refl))
+        go true q None s false n r none rest = absurd (true≢false n)
+        go true q (Some m) s false n r none rest =
+            let after = leb-false e.page.0 (get_or t j no_entry).page.0 (ap (λ (x : ℕ). leb e.page.0 (get_or t x no_entry).page.0) (sym (some_same r)) ∙ n) in
             first_after e l (get_or t j no_entry) q after (rest j r)
 
 -- the walk starts at page 0 ..
@@ -200,11 +198,11 @@ pub walk_start : (t : List Entry) (row : ℕ) → pages_from 0 t row ≡ single_
 walk_start t row = held_all (single_pages t row)
 
 -- .. what is found is the first page of what is left, and the rest are those past it ..
-pub walk_on : (t : List Entry) (row k : ℕ) → OnceAPage t → (j : ℕ) → next_entry t row k ≡ At j → pages_from k t row ≡ held_of (get_or t j no_entry) ∷ pages_from ((get_or t j no_entry).page.0 + 1) t row
+pub walk_on : (t : List Entry) (row k : ℕ) → OnceAPage t → (j : ℕ) → next_entry t row k ≡ Some j → pages_from k t row ≡ held_of (get_or t j no_entry) ∷ pages_from ((get_or t j no_entry).page.0 + 1) t row
 unfolding next_entry
 walk_on t row k once j p = pages_found t row k once t 0 refl j p
 
 -- .. and where nothing is found none is left
-pub walk_end : (t : List Entry) (row k : ℕ) → next_entry t row k ≡ Nothing → pages_from k t row ≡ []
+pub walk_end : (t : List Entry) (row k : ℕ) → next_entry t row k ≡ None → pages_from k t row ≡ []
 unfolding next_entry
 walk_end t row k p = pages_none t row k t 0 p

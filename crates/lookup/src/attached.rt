@@ -6,7 +6,7 @@ ghost use Rattle.model.specs.Lookup.{contains, region_for, any_region_for};
 ghost use Rattle.lookup.specs.Attached.{used_at};
 
 use address::VirtAddr;
-use model::{FREE, Found, REGIONS, Region, SLOTS};
+use model::{FREE, REGIONS, Region, SLOTS};
 use rows::processes::process_at;
 use rows::slots::{order_at, region_at};
 
@@ -18,20 +18,14 @@ pub fn attached_count(words: &[u64], process: usize) -> usize
     ensures upper_bound { result ≤ 64 }
 {
     let p = process_at(words, process);
-    if p.attached < SLOTS as u64 {
-        return p.attached as usize;
-    }
-    SLOTS
+    p.attached.min(SLOTS as u64) as usize
 }
 
 // Whether a region holds an address.
 pub fn region_contains(region: Region, addr: VirtAddr) -> bool
     ensures { result ≡ contains region addr.0 }
 {
-    if region.start.0 <= addr.0 {
-        return addr.0 - region.start.0 < region.size;
-    }
-    false
+    region.start <= addr && addr.0 - region.start.0 < region.size
 }
 
 // Whether the region in a process's slot holds an address; past the last row there is none.
@@ -48,46 +42,39 @@ pub fn slot_contains(words: &[u64], process: usize, slot: usize, addr: VirtAddr)
 }
 
 // The attached region at an address: its slot.
-pub fn region_for(words: &[u64], process: usize, addr: VirtAddr) -> Found
+pub fn region_for(words: &[u64], process: usize, addr: VirtAddr) -> Option<usize>
     requires words_len { length words.now ≡ word_count }
     requires process_bound { process < 8 }
     ensures { result ≡ region_for (machine words.now) process addr.0 }
 {
     let n = attached_count(words, process);
-    let mut i = 0;
-    while i < n {
+    for i in 0..n {
         let slot = order_at(words, process * SLOTS + i) as usize;
         if slot_contains(words, process, slot, addr) {
-            return Found::At(slot);
+            return Some(slot);
         }
-        i += 1;
     }
-    Found::Nothing
+    None
 }
 
 // Whether a slot is in use by a region that holds an address.
 fn is_used_at(region: Region, addr: VirtAddr) -> bool
     ensures { result ≡ used_at addr.0 region }
 {
-    if region.kind == FREE {
-        return false;
-    }
-    region_contains(region, addr)
+    region.kind != FREE && region_contains(region, addr)
 }
 
 // The region at an address, attached or detached: the lowest slot.
-pub fn any_region_for(words: &[u64], process: usize, addr: VirtAddr) -> Found
+pub fn any_region_for(words: &[u64], process: usize, addr: VirtAddr) -> Option<usize>
     requires words_len { length words.now ≡ word_count }
     requires process_bound { process < 8 }
     ensures { result ≡ any_region_for (machine words.now) process addr.0 }
 {
-    let mut i = 0;
-    while i < SLOTS {
+    for i in 0..SLOTS {
         let region = region_at(words, process * SLOTS + i);
         if is_used_at(region, addr) {
-            return Found::At(i);
+            return Some(i);
         }
-        i += 1;
     }
-    Found::Nothing
+    None
 }

@@ -9,7 +9,7 @@ ghost use Rattle.lookup.specs.NextEntry.{comes_first, nearer, next_entry};
 
 use crate::search::entry_for;
 use address::{Page, PhysFrame};
-use model::{Backed, Backing, ENTRIES, Entry, FRAMES, Found, Region, SLOTS};
+use model::{Backed, Backing, ENTRIES, Entry, FRAMES, Region, SLOTS};
 use rows::backings::backing_at;
 use rows::pages::entry_at;
 use rows::slots::region_at;
@@ -33,12 +33,7 @@ fn else_by(first: Backed, second: Backed) -> Backed
     ensures { result ≡ else_by first second }
 {
     match first {
-        Backed::ByEntry {
-            row: _,
-            frame: _,
-            count: _,
-        } => first,
-        Backed::ByRange { frame: _, count: _ } => first,
+        Backed::ByEntry { .. } | Backed::ByRange { .. } => first,
         Backed::Unbacked => second,
     }
 }
@@ -49,16 +44,14 @@ fn by_entry(words: &[u64], row: u64, page: Page) -> Backed
     requires row_bound { row < 512 }
     ensures { result ≡ by_entry (machine words.now) (entry_for (machine words.now) row page.0) }
 {
-    let Found::At(i) = entry_for(words, row, page) else {
+    let Some(i) = entry_for(words, row, page) else {
         return Backed::Unbacked;
     };
-    let e = entry_at(words, i);
-    let frame = e.frame;
-    let b = backing_from(words, frame);
+    let frame = entry_at(words, i).frame;
     Backed::ByEntry {
         row: i,
-        frame: frame,
-        count: b.holders,
+        frame,
+        count: backing_from(words, frame).holders,
     }
 }
 
@@ -101,23 +94,27 @@ pub fn backing_from(words: &[u64], frame: PhysFrame) -> Backing
 }
 
 // Of the page entries of the region in a row, from a page on, the row of the one with the lowest page; of equal pages the lowest row.
-pub fn next_entry(words: &[u64], row: u64, page: Page) -> Found
+pub fn next_entry(words: &[u64], row: u64, page: Page) -> Option<usize>
     requires words_len { length words.now ≡ word_count }
     requires row_bound { row < 512 }
     ensures { result ≡ next_entry (machine words.now).entries row page.0 }
 {
-    let mut found = Found::Nothing;
-    let mut i = ENTRIES;
+    let mut found = None;
     // Downwards: of equal pages the lowest row is seen last, and taken.
-    while 0 < i {
-        i -= 1;
+    for i in (0..ENTRIES).rev() {
         found = nearer_row(words, row + 1, page, i, found);
     }
     found
 }
 
 // Row i where its entry comes first, else what was found after it.
-fn nearer_row(words: &[u64], owner: u64, page: Page, i: usize, later: Found) -> Found
+fn nearer_row(
+    words: &[u64],
+    owner: u64,
+    page: Page,
+    i: usize,
+    later: Option<usize>,
+) -> Option<usize>
     requires words_len { length words.now ≡ word_count }
     requires i_bound { i < 512 }
     requires later_bound { row_found later < 512 }
@@ -125,26 +122,26 @@ fn nearer_row(words: &[u64], owner: u64, page: Page, i: usize, later: Found) -> 
 {
     let e = entry_at(words, i);
     if comes_first(words, e, owner, page, later) {
-        return Found::At(i);
+        return Some(i);
     }
     later
 }
 
 // Whether an entry is an owner's, from a page on, and no later in page order than the one in the row found.
-fn comes_first(words: &[u64], e: Entry, owner: u64, page: Page, later: Found) -> bool
+fn comes_first(words: &[u64], e: Entry, owner: u64, page: Page, later: Option<usize>) -> bool
     requires words_len { length words.now ≡ word_count }
     requires later_bound { row_found later < 512 }
     ensures { result ≡ comes_first (machine words.now).entries owner page.0 e later }
 {
+    // Two tests and no `||`: where two ways join, the proof has one sum of both in place of what was tested.
     if e.owner != owner {
         return false;
     }
-    if e.page.0 < page.0 {
+    if e.page < page {
         return false;
     }
-    let Found::At(j) = later else {
+    let Some(j) = later else {
         return true;
     };
-    let other = entry_at(words, j);
-    e.page.0 <= other.page.0
+    e.page <= entry_at(words, j).page
 }

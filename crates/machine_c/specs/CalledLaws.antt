@@ -1,16 +1,14 @@
 -- Laws of `Called`: what a call in words tells.
-use Rattle.std.specs.Prelude.{◌≡◌, refl, Bool, true, false, List, [], ◌∷◌, ℕ, length, set, drop, replicate}
+use Rattle.std.specs.Prelude.{◌≡◌, refl, Bool, true, false, List, [], ◌∷◌, ℕ, length, set, drop, replicate, Option, Some, None, Result, ⊤}
 use Rattle.std.proofs.Common.{sym, ap, subst, ◌∙◌, true≢false, ⊎_elim, arith}
+use Rattle.answers.specs.declared.Refusal.{Refusal}
 use Rattle.laws.specs.Lists.{pad}
 use Rattle.model.specs.declared.Answer.{Answer}
 use Rattle.model.specs.declared.Call.{Call}
-use Rattle.model.specs.declared.Done.{Done}
 use Rattle.model.specs.Answers.{Reply, of_done}
 use Rattle.model.specs.Meant.{meant, reply}
 use Rattle.model.specs.Run.{call}
 use Rattle.process.specs.Start.{Starts}
-use Rattle.call_words.specs.declared.Numbered.{Numbered}
-use Rattle.call_words.specs.declared.Numbered.TheVariants.{Is, None}
 use Rattle.call_rows.specs.Asked.{call_in, starts_with}
 use Rattle.call_rows.specs.AskedLaws.{started_is, behind_started, starts_no_call}
 use Rattle.call_rows.specs.BehindLaws.{behind, with_behind, set_with_behind}
@@ -43,23 +41,23 @@ module _ (c : Call) (w f b w' f' : List ℕ) where
         (q ∙ (front ∙ (told_list x starts long is.others ∙ ap (λ (y : Reply). pad 65 0 y.values) (is.answer refl))), is.leaves refl),
       )
 
-pub start_told : (l w f b w' : List ℕ) (r : Done) (n : ℕ) → starts_with l ≡ true → Starts w f b (behind l) w' r → n ≡ (of_done r).number → StartTold w f b (drop 1 l) w' n
+pub start_told : (l w f b w' : List ℕ) (r : Result ⊤ Refusal) (n : ℕ) → starts_with l ≡ true → Starts w f b (behind l) w' r → n ≡ (of_done r).number → StartTold w f b (drop 1 l) w' n
 start_told l w f b w' r n e s p = record { answer = r; number = p; starts = subst (λ (rows : List ℕ). Starts w f b rows w' r) (behind_started l e) s }
 
 -- ---- the whole
 
-is_not_none : (c : Call) → Is c ≡ None → ⊥
+is_not_none : (c : Call) → Some c ≡ None → ⊥
 is_not_none c e = true≢false (ap named e)
   where
-    named : Numbered → Bool
-    named (Is c) = true
+    named : Option Call → Bool
+    named (Some c) = true
     named None = false
 
-same_call : (c d : Call) → Is c ≡ Is d → c ≡ d
+same_call : (c d : Call) → Some c ≡ Some d → c ≡ d
 same_call c d e = ap the_call e
   where
-    the_call : Numbered → Call
-    the_call (Is x) = x
+    the_call : Option Call → Call
+    the_call (Some x) = x
     the_call None = c
 
 module _ (asked w f b out : List ℕ) where
@@ -82,7 +80,7 @@ module _ (asked w f b out : List ℕ) where
         none = λ _. (refl, (refl, (refl, refl)));
       }
 
-  pub call_runs : length out ≡ 65 → starts_with asked ≡ false → (c : Call) → Is c ≡ call_in asked → (w' f' out' : List ℕ) (r : ℕ) → RunTold c w f b w' f' r out' → CallTold asked w f b out w' f' out' r
+  pub call_runs : length out ≡ 65 → starts_with asked ≡ false → (c : Call) → Some c ≡ call_in asked → (w' f' out' : List ℕ) (r : ℕ) → RunTold c w f b w' f' r out' → CallTold asked w f b out w' f' out' r
   call_runs h e c i w' f' out' r t =
       record {
         told = λ _ d j. subst (λ (x : Call). RunTold x w f b w' f' r out') (same_call c d (i ∙ j)) t;

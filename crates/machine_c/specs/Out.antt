@@ -1,7 +1,7 @@
 -- What an exported call returns and writes: number and values (RULES O1); where `out` is of another length, 1 and nothing written.
-use Rattle.std.specs.Prelude.{◌≡◌, List, ℕ, length}
+use Rattle.std.specs.Prelude.{◌≡◌, List, ℕ, length, Result, ⊤}
+use Rattle.answers.specs.declared.Refusal.{Refusal}
 use Rattle.model.specs.Machine.{State}
-use Rattle.model.specs.declared.Done.{Done}
 use Rattle.model.specs.Answers.{After, Reply, of_done}
 use Rattle.process.specs.Start.{Starts}
 use Rattle.calls.specs.Answered.{Leaves}
@@ -17,6 +17,6 @@ pub record LeavesOut {A : Type 0} (call : State → After A) (n : ℕ) (out word
 
 -- what start answers as a number, and leaves
 pub record StartTold (words frames bytes rows words' : List ℕ) (r : ℕ) : Type 0 where
-  pub answer : Done
+  pub answer : Result ⊤ Refusal
   pub number : r ≡ (of_done answer).number
   pub starts : Starts words frames bytes rows words' answer

@@ -1,9 +1,9 @@
 -- Laws of `Out`: what an exported call returns and writes: number and values (RULES E, O1); where `out` is of another length, 1 and nothing written.
-use Rattle.std.specs.Prelude.{◌≡◌, refl, List, [], ◌∷◌, ℕ, length, set}
+use Rattle.std.specs.Prelude.{◌≡◌, refl, List, [], ◌∷◌, ℕ, length, set, Result, Err}
 use Rattle.std.proofs.Common.{ap, subst, ◌∙◌, arith}
+use Rattle.answers.specs.declared.Refusal.{Refusal}
+use Rattle.address.specs.declared.VirtAddr.{VirtAddr}
 use Rattle.model.specs.Machine.{State}
-use Rattle.model.specs.declared.Placed.{Placed}
-use Rattle.model.specs.declared.Placed.TheVariants as placed
 use Rattle.model.specs.declared.Answer.TheVariants as says
 use Rattle.model.specs.declared.Call.{Call}
 use Rattle.model.specs.declared.Counted.{Counted}
@@ -30,20 +30,20 @@ module _ {A : Type 0} (call : State → After A) (n : ℕ) (out w f b : List ℕ
   left_alone k = record { machine = λ h. absurd (k h); other = λ _. (refl, refl) }
 
 -- creation by what was worked out first: its place, its fork policy
-module _ {A : Type 0} (call : A → State → After Placed) (w f b : List ℕ) where
+module _ {A : Type 0} (call : A → State → After (Result VirtAddr Refusal)) (w f b : List ℕ) where
   pub placed_out :
       (pl pl' : A)
       → pl ≡ pl'
-      → (x : Placed) (n : ℕ) (out out' w' f' : List ℕ)
+      → (x : Result VirtAddr Refusal) (n : ℕ) (out out' w' f' : List ℕ)
       → length out ≡ 1
-      → x ≡ answer_on placed.No (call pl) w f b
+      → x ≡ answer_on Err (call pl) w f b
       → Leaves (call pl) w f b w' f'
       → n ≡ (of_placed x).number
       → out' ≡ (of_placed x).values
-      → Told (of_placed (answer_on placed.No (call pl') w f b)) 1 n out out' × LeavesOut (call pl') 1 out w f b w' f'
+      → Told (of_placed (answer_on Err (call pl') w f b)) 1 n out out' × LeavesOut (call pl') 1 out w f b w' f'
   placed_out pl pl' e x n out out' w' f' h a l p q =
-      subst (λ (y : A). Told (of_placed (answer_on placed.No (call y) w f b)) 1 n out out' × LeavesOut (call y) 1 out w f b w' f') e
-      (told_all _ _ _ _ _ h (p ∙ ap (λ (z : Placed). (of_placed z).number) a) (q ∙ ap (λ (z : Placed). (of_placed z).values) a), left_out _ _ _ _ _ _ h _ _ l)
+      subst (λ (y : A). Told (of_placed (answer_on Err (call y) w f b)) 1 n out out' × LeavesOut (call y) 1 out w f b w' f') e
+      (told_all _ _ _ _ _ h (p ∙ ap (λ (z : Result VirtAddr Refusal). (of_placed z).number) a) (q ∙ ap (λ (z : Result VirtAddr Refusal). (of_placed z).values) a), left_out _ _ _ _ _ _ h _ _ l)
 
 -- a list, whose starts stand behind the count
 pub listed_out : (c : Call) (w f b w' f' out starts : List ℕ) (r : Counted) (n : ℕ) (out' : List ℕ) → length out ≡ 65

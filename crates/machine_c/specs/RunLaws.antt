@@ -1,9 +1,8 @@
 -- Laws of `Called`: machine_call on an `out` of zeros gives one row of machine_run, and leaves what its call leaves there.
-use Rattle.std.specs.Prelude.{◌≡◌, refl, Bool, true, false, List, ◌∷◌, ℕ, drop, replicate}
+use Rattle.std.specs.Prelude.{◌≡◌, refl, Bool, true, false, List, ◌∷◌, ℕ, drop, replicate, Option, Some, None}
 use Rattle.std.proofs.Common.{ap, sym, subst, ◌∙◌, inr}
 use Rattle.std.proofs.lemmas.Bool.{false≢true}
-use Rattle.call_words.specs.declared.Numbered.{Numbered}
-use Rattle.call_words.specs.declared.Numbered.TheVariants.{Is, None}
+use Rattle.model.specs.declared.Call.{Call}
 use Rattle.call_rows.specs.Asked.{call_in, starts_with}
 use Rattle.call_rows.specs.AskedLaws.{started_is}
 use Rattle.call_runs.specs.OneLaws.{one_none, one_ran, start_told}
@@ -21,9 +20,9 @@ called_one asked w f b w' f' out r told = go (starts_with asked) refl (call_in a
         let number = ap (λ (n : ℕ). n ∷ replicate 65 0) t.0.number in
         subst (λ (x : List ℕ). RanOne asked w f b w' x (r ∷ out)) (sym t.1.0) (start_told asked w f b e w' (r ∷ out) t.0.answer t.0.starts (row ∙ number))
 
-    go : (x : Bool) → starts_with asked ≡ x → (n : Numbered) → call_in asked ≡ n → RanOne asked w f b w' f' (r ∷ out)
+    go : (x : Bool) → starts_with asked ≡ x → (n : Option Call) → call_in asked ≡ n → RanOne asked w f b w' f' (r ∷ out)
     go true e n i = starting e
-    go false e (Is c) i =
+    go false e (Some c) i =
         let t = told.told refl c i in
         one_ran asked w f b c e (sym i) w' f' (r ∷ out) (λ k. t.0 k ∷ t.1.0 k) t.1.1
     go false e None i =

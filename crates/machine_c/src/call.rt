@@ -12,7 +12,6 @@ ghost use Rattle.machine_c.specs.Called.{CallTold};
 
 use call_rows::asked::{call_in, is_start};
 use call_rows::told::{tell_answer, tell_done};
-use call_words::Numbered;
 use model::Call;
 use regions::list::put_zeros;
 
@@ -35,8 +34,8 @@ pub extern "C" fn machine_call(
         return start_call(words, &frames[..], files, call, out);
     }
     match call_in(call) {
-        Numbered::None => 1,
-        Numbered::Is(asked) => run_call(words, frames, files, asked, out),
+        None => 1,
+        Some(asked) => run_call(words, frames, files, asked, out),
     }
 }
 

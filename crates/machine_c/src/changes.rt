@@ -1,7 +1,6 @@
 // Calls that change the tables alone: removal, protection, pins, carve.
-ghost use Rattle.std.specs.Prelude.{◌≡◌};
+ghost use Rattle.std.specs.Prelude.{◌≡◌, Err};
 ghost use Rattle.model.specs.declared.Call.TheVariants as code;
-ghost use Rattle.model.specs.declared.Done.TheVariants as done;
 ghost use Rattle.model.specs.Answers.{of_done};
 ghost use Rattle.model.specs.Calls as model;
 ghost use Rattle.model.specs.Meant.{meant};
@@ -22,7 +21,7 @@ pub extern "C" fn machine_remove(
     process: u64,
     addr: u64,
 ) -> u64
-    ensures value { result ≡ (of_done (answer_on done.No (λ s. model.remove s process addr) words.old frames.now files.now)).number }
+    ensures value { result ≡ (of_done (answer_on Err (λ s. model.remove s process addr) words.old frames.now files.now)).number }
     ensures leaves { Leaves (λ s. model.remove s process addr) words.old frames.now files.now words.new frames.now }
 {
     tell_done(calls::remove(words, frames, files, process, VirtAddr(addr)))
@@ -31,7 +30,7 @@ pub extern "C" fn machine_remove(
 // Removes all regions of a process.
 #[unsafe(no_mangle)]
 pub extern "C" fn machine_clear(words: &mut [u64], frames: &[u8], files: &[u8], process: u64) -> u64
-    ensures value { result ≡ (of_done (answer_on done.No (λ s. model.clear s process) words.old frames.now files.now)).number }
+    ensures value { result ≡ (of_done (answer_on Err (λ s. model.clear s process) words.old frames.now files.now)).number }
     ensures leaves { Leaves (λ s. model.clear s process) words.old frames.now files.now words.new frames.now }
 {
     tell_done(calls::clear(words, frames, files, process))
@@ -47,7 +46,7 @@ pub extern "C" fn machine_protect(
     addr: u64,
     flags: u64,
 ) -> u64
-    ensures value { result ≡ (of_done (answer_on done.No (λ s. model.protect s process addr flags) words.old frames.now files.now)).number }
+    ensures value { result ≡ (of_done (answer_on Err (λ s. model.protect s process addr flags) words.old frames.now files.now)).number }
     ensures leaves { Leaves (λ s. model.protect s process addr flags) words.old frames.now files.now words.new frames.now }
 {
     tell_done(calls::protect(words, frames, files, process, VirtAddr(addr), flags))
@@ -62,7 +61,7 @@ pub extern "C" fn machine_pin(
     process: u64,
     addr: u64,
 ) -> u64
-    ensures value { result ≡ (of_done (answer_on done.No (λ s. model.pin s process addr) words.old frames.now files.now)).number }
+    ensures value { result ≡ (of_done (answer_on Err (λ s. model.pin s process addr) words.old frames.now files.now)).number }
     ensures leaves { Leaves (λ s. model.pin s process addr) words.old frames.now files.now words.new frames.now }
 {
     tell_done(calls::pin(words, frames, files, process, VirtAddr(addr)))
@@ -77,7 +76,7 @@ pub extern "C" fn machine_unpin(
     process: u64,
     addr: u64,
 ) -> u64
-    ensures value { result ≡ (of_done (answer_on done.No (λ s. model.unpin s process addr) words.old frames.now files.now)).number }
+    ensures value { result ≡ (of_done (answer_on Err (λ s. model.unpin s process addr) words.old frames.now files.now)).number }
     ensures leaves { Leaves (λ s. model.unpin s process addr) words.old frames.now files.now words.new frames.now }
 {
     tell_done(calls::unpin(words, frames, files, process, VirtAddr(addr)))

@@ -1,6 +1,5 @@
 // Calls that change frames too: faults, populate, clones.
-ghost use Rattle.std.specs.Prelude.{◌≡◌, not, eqb};
-ghost use Rattle.model.specs.declared.Done.TheVariants as done;
+ghost use Rattle.std.specs.Prelude.{◌≡◌, not, eqb, Err};
 ghost use Rattle.model.specs.Answers.{of_done};
 ghost use Rattle.model.specs.Calls as model;
 ghost use Rattle.calls.specs.Answered.{answer_on, Leaves};
@@ -18,7 +17,7 @@ pub extern "C" fn machine_fault(
     addr: u64,
     write: u64,
 ) -> u64
-    ensures value { result ≡ (of_done (answer_on done.No (λ s. model.fault s process addr (not (eqb write 0))) words.old frames.old files.now)).number }
+    ensures value { result ≡ (of_done (answer_on Err (λ s. model.fault s process addr (not (eqb write 0))) words.old frames.old files.now)).number }
     ensures leaves { Leaves (λ s. model.fault s process addr (not (eqb write 0))) words.old frames.old files.now words.new frames.new }
 {
     tell_done(calls::fault(words, frames, files, process, VirtAddr(addr), write != 0))
@@ -35,7 +34,7 @@ pub extern "C" fn machine_populate(
     len: u64,
     write: u64,
 ) -> u64
-    ensures value { result ≡ (of_done (answer_on done.No (λ s. model.populate s process addr len (not (eqb write 0))) words.old frames.old files.now)).number }
+    ensures value { result ≡ (of_done (answer_on Err (λ s. model.populate s process addr len (not (eqb write 0))) words.old frames.old files.now)).number }
     ensures leaves { Leaves (λ s. model.populate s process addr len (not (eqb write 0))) words.old frames.old files.now words.new frames.new }
 {
     tell_done(calls::populate(
@@ -57,7 +56,7 @@ pub extern "C" fn machine_eager(
     files: &[u8],
     process: u64,
 ) -> u64
-    ensures value { result ≡ (of_done (answer_on done.No (λ s. model.eager s process) words.old frames.old files.now)).number }
+    ensures value { result ≡ (of_done (answer_on Err (λ s. model.eager s process) words.old frames.old files.now)).number }
     ensures leaves { Leaves (λ s. model.eager s process) words.old frames.old files.now words.new frames.new }
 {
     tell_done(calls::eager(words, frames, files, process))
@@ -73,7 +72,7 @@ pub extern "C" fn machine_clone_region(
     addr: u64,
     target: u64,
 ) -> u64
-    ensures value { result ≡ (of_done (answer_on done.No (λ s. model.clone_region s process addr target) words.old frames.old files.now)).number }
+    ensures value { result ≡ (of_done (answer_on Err (λ s. model.clone_region s process addr target) words.old frames.old files.now)).number }
     ensures leaves { Leaves (λ s. model.clone_region s process addr target) words.old frames.old files.now words.new frames.new }
 {
     tell_done(calls::clone_region(words, frames, files, process, VirtAddr(addr), target))
@@ -88,7 +87,7 @@ pub extern "C" fn machine_clone(
     process: u64,
     target: u64,
 ) -> u64
-    ensures value { result ≡ (of_done (answer_on done.No (λ s. model.clone s process target) words.old frames.old files.now)).number }
+    ensures value { result ≡ (of_done (answer_on Err (λ s. model.clone s process target) words.old frames.old files.now)).number }
     ensures leaves { Leaves (λ s. model.clone s process target) words.old frames.old files.now words.new frames.new }
 {
     tell_done(calls::clone(words, frames, files, process, target))

@@ -3,14 +3,9 @@
 // answers 1, BadTable, and changes nothing.
 #![tactic(auto)]
 
-ghost use Rattle.std.specs.Prelude.{◌≡◌, not, eqb};
+ghost use Rattle.std.specs.Prelude.{◌≡◌, not, eqb, Err};
 ghost use Rattle.address.specs.declared.VirtAddr.{VirtAddr};
 ghost use Rattle.model.specs.declared.Call.TheVariants as code;
-ghost use Rattle.model.specs.declared.Done.TheVariants as done;
-ghost use Rattle.model.specs.declared.Opened.TheVariants as opened;
-ghost use Rattle.model.specs.declared.Placed.TheVariants as placed;
-ghost use Rattle.model.specs.declared.Covering.TheVariants as covering;
-ghost use Rattle.model.specs.declared.Loaded.TheVariants as loaded;
 ghost use Rattle.model.specs.Answers.{of_done, of_opened, of_placed, of_covering, of_loaded};
 ghost use Rattle.model.specs.Create.{is_copy, is_eager};
 ghost use Rattle.model.specs.Calls as model;
@@ -60,7 +55,7 @@ pub extern "C" fn machine_open(
     size: u64,
     out: &mut [u64],
 ) -> u64
-    ensures told { Told (of_opened (answer_on opened.No (λ s. model.open_process s start size) words.old frames.now files.now)) 1 result out.old out.new }
+    ensures told { Told (of_opened (answer_on Err (λ s. model.open_process s start size) words.old frames.now files.now)) 1 result out.old out.new }
     ensures leaves_out { LeavesOut (λ s. model.open_process s start size) 1 out.old words.old frames.now files.now words.new frames.now }
 {
     if out.len() != 1 {
@@ -75,7 +70,7 @@ pub extern "C" fn machine_open(
 // Removes all regions of a process and closes it.
 #[unsafe(no_mangle)]
 pub extern "C" fn machine_close(words: &mut [u64], frames: &[u8], files: &[u8], process: u64) -> u64
-    ensures value { result ≡ (of_done (answer_on done.No (λ s. model.close s process) words.old frames.now files.now)).number }
+    ensures value { result ≡ (of_done (answer_on Err (λ s. model.close s process) words.old frames.now files.now)).number }
     ensures leaves { Leaves (λ s. model.close s process) words.old frames.now files.now words.new frames.now }
 {
     tell_done(calls::close(words, frames, files, process))
@@ -91,7 +86,7 @@ pub extern "C" fn machine_region(
     addr: u64,
     out: &mut [u64],
 ) -> u64
-    ensures { Told (of_placed (answer_on placed.No (λ s. model.region s process addr) words.now frames.now files.now)) 1 result out.old out.new }
+    ensures { Told (of_placed (answer_on Err (λ s. model.region s process addr) words.now frames.now files.now)) 1 result out.old out.new }
 {
     if out.len() != 1 {
         return 1;
@@ -131,7 +126,7 @@ pub extern "C" fn machine_covers(
     end: u64,
     out: &mut [u64],
 ) -> u64
-    ensures { Told (of_covering (answer_on covering.No (λ s. model.covers s process start end) words.now frames.now files.now)) 1 result out.old out.new }
+    ensures { Told (of_covering (answer_on Err (λ s. model.covers s process start end) words.now frames.now files.now)) 1 result out.old out.new }
 {
     if out.len() != 1 {
         return 1;
@@ -152,7 +147,7 @@ pub extern "C" fn machine_load(
     addr: u64,
     out: &mut [u64],
 ) -> u64
-    ensures { Told (of_loaded (answer_on loaded.No (λ s. model.load s process addr) words.now frames.now files.now)) 1 result out.old out.new }
+    ensures { Told (of_loaded (answer_on Err (λ s. model.load s process addr) words.now frames.now files.now)) 1 result out.old out.new }
 {
     if out.len() != 1 {
         return 1;
@@ -173,7 +168,7 @@ pub extern "C" fn machine_store(
     addr: u64,
     byte: u8,
 ) -> u64
-    ensures value { result ≡ (of_done (answer_on done.No (λ s. model.store s process addr byte) words.now frames.old files.now)).number }
+    ensures value { result ≡ (of_done (answer_on Err (λ s. model.store s process addr byte) words.now frames.old files.now)).number }
     ensures leaves { Leaves (λ s. model.store s process addr byte) words.now frames.old files.now words.now frames.new }
 {
     tell_done(calls::store(words, frames, files, process, VirtAddr(addr), byte))
@@ -225,7 +220,7 @@ pub extern "C" fn machine_create_private(
     eager: u64,
     out: &mut [u64],
 ) -> u64
-    ensures told { Told (of_placed (answer_on placed.No (λ s. model.create_private s process (place_of given start) (not (eqb eager 0)) size flags (not (eqb copy 0)) (not (eqb thread 0))) words.old frames.old files.now)) 1 result out.old out.new }
+    ensures told { Told (of_placed (answer_on Err (λ s. model.create_private s process (place_of given start) (not (eqb eager 0)) size flags (not (eqb copy 0)) (not (eqb thread 0))) words.old frames.old files.now)) 1 result out.old out.new }
     ensures leaves_out { LeavesOut (λ s. model.create_private s process (place_of given start) (not (eqb eager 0)) size flags (not (eqb copy 0)) (not (eqb thread 0))) 1 out.old words.old frames.old files.now words.new frames.new }
 {
     if out.len() != 1 {
@@ -269,7 +264,7 @@ pub extern "C" fn machine_create_file(
     length: u64,
     out: &mut [u64],
 ) -> u64
-    ensures told { Told (of_placed (answer_on placed.No (λ s. model.create_file s process (place_of given start) size flags (not (eqb copy 0)) (not (eqb thread 0)) file offset length) words.old frames.old files.now)) 1 result out.old out.new }
+    ensures told { Told (of_placed (answer_on Err (λ s. model.create_file s process (place_of given start) size flags (not (eqb copy 0)) (not (eqb thread 0)) file offset length) words.old frames.old files.now)) 1 result out.old out.new }
     ensures leaves_out { LeavesOut (λ s. model.create_file s process (place_of given start) size flags (not (eqb copy 0)) (not (eqb thread 0)) file offset length) 1 out.old words.old frames.old files.now words.new frames.new }
 {
     if out.len() != 1 {
@@ -308,7 +303,7 @@ pub extern "C" fn machine_create_shared(
     size: u64,
     out: &mut [u64],
 ) -> u64
-    ensures told { Told (of_placed (answer_on placed.No (λ s. model.create_shared s process (place_of given start) size) words.old frames.old files.now)) 1 result out.old out.new }
+    ensures told { Told (of_placed (answer_on Err (λ s. model.create_shared s process (place_of given start) size) words.old frames.old files.now)) 1 result out.old out.new }
     ensures leaves_out { LeavesOut (λ s. model.create_shared s process (place_of given start) size) 1 out.old words.old frames.old files.now words.new frames.new }
 {
     if out.len() != 1 {

@@ -1,16 +1,12 @@
 -- RULES N7, up to 8 files, lent with their bytes and never changed: no call changes the files' bytes.
-use Rattle.std.specs.Prelude.{◌≡◌, refl, Bool, true, false, not, cond, List, [], ◌∷◌, ℕ, zero, suc, ◌+◌, ◌/◌, ltb}
+use Rattle.std.specs.Prelude.{◌≡◌, refl, Bool, true, false, not, cond, List, [], ◌∷◌, ℕ, zero, suc, ◌+◌, ◌/◌, ltb, Option, Some, None, Result, Ok, Err, ⊤}
 use Rattle.std.proofs.Common.{◌∙◌}
 use Rattle.answers.specs.declared.Refusal.{Refusal}
 use Rattle.answers.specs.declared.Refusal.TheVariants.{BadTable}
 use Rattle.model.specs.declared.Region.{Region}
 use Rattle.model.specs.declared.Place.{Place}
-use Rattle.model.specs.declared.Found.{Found}
-use Rattle.model.specs.declared.Found.TheVariants.{At, Nothing}
 use Rattle.model.specs.declared.Way.{Way}
 use Rattle.model.specs.declared.Way.TheVariants.{Refuse, Already, Restore, Map, Copy, Fill}
-use Rattle.model.specs.declared.Done.{Done}
-use Rattle.model.specs.declared.Done.TheVariants.{Yes, No}
 use Rattle.laws.specs.Lists.{each}
 use Rattle.model.specs.Machine.{State, region_at, mapped_of}
 use Rattle.model.specs.Answers.{After, Try, fine, first_of, unless, and_then}
@@ -33,24 +29,24 @@ abbrev Same : State → State → Type 0
 Same s t = t.bytes ≡ s.bytes
 
 module _ (s : State) where
-  decided_same : {A : Type 0} (d : Done) (no_answer : Refusal → A) (t : After A) → Same s t.state → Same s (calls.decided d no_answer s t).state
-  decided_same Yes n t h = h
-  decided_same (No r) n t h = refl
+  decided_same : {A : Type 0} (d : Result ⊤ Refusal) (no_answer : Refusal → A) (t : After A) → Same s t.state → Same s (calls.decided d no_answer s t).state
+  decided_same (Ok tt) n t h = h
+  decided_same (Err r) n t h = refl
 
   guarded_same : {A : Type 0} (n : Refusal → A) (tests : List (Bool × Refusal)) (t : After A) → Same s t.state → Same s (calls.guarded s n tests t).state
   unfolding calls.guarded
   guarded_same n tests t h = decided_same (first_of ((not (soundb s), BadTable) ∷ tests)) n t h
 
-  unless_same : (d : Done) (t : Try) → Same s t.state → Same s (unless d s t).state
-  unless_same Yes t h = h
-  unless_same (No r) t h = refl
+  unless_same : (d : Result ⊤ Refusal) (t : Try) → Same s t.state → Same s (unless d s t).state
+  unless_same (Ok tt) t h = h
+  unless_same (Err r) t h = refl
 
   then_same : (t : Try) (f : State → Try) → Same s t.state → ((u : State) → Same s u → Same s (f u).state) → Same s (and_then t f).state
   then_same t f h k = go t.answer
     where
-      go : (d : Done) → Same s (and_then (record { answer = d; state = t.state }) f).state
-      go Yes = k t.state h
-      go (No r) = h
+      go : (d : Result ⊤ Refusal) → Same s (and_then (record { answer = d; state = t.state }) f).state
+      go (Ok tt) = k t.state h
+      go (Err r) = h
 
   cond_same : (b : Bool) (t u : Try) → Same s t.state → Same s u.state → Same s (cond b t u).state
   cond_same true t u h k = h
@@ -82,11 +78,11 @@ unfolding visit
 visit_same zero s p page last w = refl
 visit_same (suc n) s p page last w = go (ltb last page) (region_for s.machine p (page_start page)) (next_start s.machine p page) (λ t q. visit_same n t p q last w)
   where
-    go : (b : Bool) (r x : Found) → ((t : State) (q : ℕ) → Same t (visit n t p q last w).state) → Same s (elim b as (λ z. Try) [ true ↦ fine s | false ↦ elim r as (λ z. Try) [ At slot ↦ and_then (populate_page s p slot page w) (λ t. visit n t p (page + 1) last w) | Nothing ↦ elim x as (λ z. Try) [ At next ↦ visit n s p next last w | Nothing ↦ fine s ] ] ]).state
+    go : (b : Bool) (r x : Option ℕ) → ((t : State) (q : ℕ) → Same t (visit n t p q last w).state) → Same s (elim b as (λ z. Try) [ true ↦ fine s | false ↦ elim r as (λ z. Try) [ Some slot ↦ and_then (populate_page s p slot page w) (λ t. visit n t p (page + 1) last w) | None ↦ elim x as (λ z. Try) [ Some next ↦ visit n s p next last w | None ↦ fine s ] ] ]).state
     go true r x ih = refl
-    go false (At slot) x ih = then_same s (populate_page s p slot page w) (λ t. visit n t p (page + 1) last w) (page_same s p slot page w) (λ u h. ih u (page + 1) ∙ h)
-    go false Nothing (At next) ih = ih s next
-    go false Nothing Nothing ih = refl
+    go false (Some slot) x ih = then_same s (populate_page s p slot page w) (λ t. visit n t p (page + 1) last w) (page_same s p slot page w) (λ u h. ih u (page + 1) ∙ h)
+    go false None (Some next) ih = ih s next
+    go false None None ih = refl
 
 populate_same : (s : State) (p a len : ℕ) (w : Bool) → Same s (core_populate s p a len w).state
 unfolding core_populate
@@ -127,23 +123,23 @@ clone_each_same (slot ∷ l) s p q = go (λ t. clone_each_same l t p q)
     go : ((t : State) → Same t (clone_each l t p q).state) → Same s (and_then (core_clone_region s p slot q) (λ t. clone_each l t p q)).state
     go ih = then_same s (core_clone_region s p slot q) (λ t. clone_each l t p q) (clone_region_same s p slot q) (λ u h. ih u ∙ h)
 
-run_same : (s : State) (n : ℕ) (f : Found) → Same s (with_run s f n)
+run_same : (s : State) (n : ℕ) (f : Option ℕ) → Same s (with_run s f n)
 unfolding with_run
-run_same s n Nothing = refl
-run_same s n (At f) = refl
+run_same s n None = refl
+run_same s n (Some f) = refl
 
 create_same : (s : State) (p : ℕ) (place : Place) (whole : Bool) (r : Region) → Same s (core_create s p place whole r)
 unfolding core_create
-create_same s p place whole r = go (cond (run_needed whole r) (lowest_run s.machine (pages_for r.size)) Nothing)
+create_same s p place whole r = go (cond (run_needed whole r) (lowest_run s.machine (pages_for r.size)) None)
   where
-    go : (f : Found) → Same s (with_run s f (pages_for r.size))
+    go : (f : Option ℕ) → Same s (with_run s f (pages_for r.size))
     go = run_same s (pages_for r.size)
 
 -- ---- every call
 
 pub bytes_kept : (c : Call) (s : State) → (step c s).bytes ≡ s.bytes
 unfolding step call calls.start start_refusals calls.sound calls.open_process calls.core_open calls.close calls.create calls.create_private calls.create_file calls.create_shared calls.remove calls.clear calls.carve core_carve calls.covers calls.region calls.regions calls.fault calls.populate calls.eager core_populate_eager_copies calls.clone_region calls.clone core_clone calls.protect calls.pin calls.unpin calls.load calls.store stored
-bytes_kept (Call.start files) s = decided_same s (first_of ((bad_lengths s files, BadTable) ∷ [])) No _ refl
+bytes_kept (Call.start files) s = decided_same s (first_of ((bad_lengths s files, BadTable) ∷ [])) Err _ refl
 bytes_kept Call.sound s = guarded_same s _ _ _ refl
 bytes_kept (Call.open_process a size) s = guarded_same s _ _ _ refl
 bytes_kept (Call.close p) s = guarded_same s _ _ _ refl

@@ -1,10 +1,8 @@
 -- Backings and frames: the pool, who holds what, and the bytes of frames.
-use Rattle.std.specs.Prelude.{Bool, false, ◌&&◌, ◌||◌, not, cond, List, [], ◌∷◌, ◌++◌, ℕ, ◌+◌, ◌-◌, ◌*◌, ◌/◌, length, get_or, set, take, drop, replicate, eqb, ltb, leb}
+use Rattle.std.specs.Prelude.{Bool, false, ◌&&◌, ◌||◌, not, cond, List, [], ◌∷◌, ◌++◌, ℕ, ◌+◌, ◌-◌, ◌*◌, ◌/◌, length, get_or, set, take, drop, replicate, eqb, ltb, leb, Option, Some, None}
 use Rattle.model.specs.declared.Region.{Region}
 use Rattle.model.specs.declared.Backing.{Backing}
 use Rattle.model.specs.declared.Pool.{Pool}
-use Rattle.model.specs.declared.Found.{Found}
-use Rattle.model.specs.declared.Found.TheVariants.{At, Nothing}
 use Rattle.model.specs.declared.Backed.{Backed}
 use Rattle.model.specs.declared.Backed.TheVariants.{ByEntry, ByRange, Unbacked}
 use Rattle.laws.specs.Lists.{keep, first, up_from, each}
@@ -35,15 +33,15 @@ abbrev pub with_backing : Machine → ℕ → ℕ → ℕ → Machine
 with_backing m f n h = with_backings m (set m.backings f (record { len = n; holders = h }))
 
 -- the start of the lowest n free frames in a row; `k` frames from `f` on are free so far
-unfoldable pub run_from : ℕ → ℕ → ℕ → List ℕ → Found
-run_from n f k [] = Nothing
+unfoldable pub run_from : ℕ → ℕ → ℕ → List ℕ → Option ℕ
+run_from n f k [] = None
 run_from n f k (x ∷ l) =
     let more = run_from n f (k + 1) l in
     let anew = run_from n x 1 l in
-    cond (eqb x (f + k)) (cond (eqb (k + 1) n) (At f) more) (cond (eqb n 1) (At x) anew)
+    cond (eqb x (f + k)) (cond (eqb (k + 1) n) (Some f) more) (cond (eqb n 1) (Some x) anew)
 
 -- a run is the lowest that fits (RULES C7)
-unfoldable pub lowest_run : Machine → ℕ → Found
+unfoldable pub lowest_run : Machine → ℕ → Option ℕ
 lowest_run m n = run_from n 0 0 (free_frames m.frame_count (take m.frame_count m.backings))
 
 -- a new backing of n frames at f, with one holder
@@ -59,7 +57,7 @@ unfoldable pub let_go : Machine → ℕ → Machine
 let_go m f = let fewer = with_backing m f (backing_at m f).len ((backing_at m f).holders - 1) in let none = with_backing m f 0 0 in cond (leb (backing_at m f).holders 1) none fewer
 
 -- the page entry of a region's page
-unfoldable pub entry_for : Machine → ℕ → ℕ → Found
+unfoldable pub entry_for : Machine → ℕ → ℕ → Option ℕ
 entry_for m row page = first_row (λ e. eqb e.owner (row + 1) && eqb e.page.0 page) m.entries 0
 
 -- the Rust's PrivateRegionState::backing. The page entry if any, else the range (RULES B1)
@@ -72,9 +70,9 @@ backing m p s page = entry_else (entry_for m (row_of p s) page)
     offset : ℕ
     offset = page - r.start.0 / 4096
 
-    entry_else : Found → Backed
-    entry_else (At i) = let f = (get_or m.entries i no_entry).frame in ByEntry i f (backing_at m f.0).holders
-    entry_else Nothing = cond (is_ranged r && ltb offset (backing_at m r.range.0).len) (ByRange (record { 0 = r.range.0 + offset }) (backing_at m r.range.0).holders) Unbacked
+    entry_else : Option ℕ → Backed
+    entry_else (Some i) = let f = (get_or m.entries i no_entry).frame in ByEntry i f (backing_at m f.0).holders
+    entry_else None = cond (is_ranged r && ltb offset (backing_at m r.range.0).len) (ByRange (record { 0 = r.range.0 + offset }) (backing_at m r.range.0).holders) Unbacked
 
 -- a new entry takes the lowest free row
 unfoldable pub add_entry : Machine → ℕ → ℕ → ℕ → Machine

@@ -1,11 +1,9 @@
 -- Carve: regions that cross a bound of a range are split there. The Rust's carve, split_at_bounds, check_split and split.
-use Rattle.std.specs.Prelude.{Bool, ◌&&◌, ◌||◌, not, cond, List, [], ◌∷◌, ◌++◌, map, ℕ, ◌+◌, ◌-◌, ◌*◌, ◌/◌, min, eqb, ltb, leb}
+use Rattle.std.specs.Prelude.{Bool, ◌&&◌, ◌||◌, not, cond, List, [], ◌∷◌, ◌++◌, map, ℕ, ◌+◌, ◌-◌, ◌*◌, ◌/◌, min, eqb, ltb, leb, Result, Ok, Err, ⊤}
 use Rattle.address.specs.Pages.{aligned}
 use Rattle.answers.specs.declared.Refusal.{Refusal}
 use Rattle.answers.specs.declared.Refusal.TheVariants.{EagerBacking, Shared, InUse, TableFull}
 use Rattle.model.specs.declared.Region.{Region}
-use Rattle.model.specs.declared.Done.{Done}
-use Rattle.model.specs.declared.Done.TheVariants.{Yes, No}
 use Rattle.model.specs.declared.Listed.{Listed}
 use Rattle.laws.specs.Lists.{keep, any}
 use Rattle.model.specs.Machine.{Machine, State, with_machine, with_entries, with_region, with_order, order_of, region_at, row_of, user_end}
@@ -67,19 +65,19 @@ split_refusals m p s a e =
     (is_ranged r && not (is_shared r), EagerBacking) ∷ (is_shared r, Shared) ∷ (is_pinned r, InUse) ∷ (ltb (free_slots m p) (slots_needed r a e), TableFull) ∷ []
 
 -- RULES O6: a carve meets its regions one by one; V3: after the first error the rest go back whole
-unfoldable pub carve_each : List ℕ → Machine → (p a e : ℕ) → Machine × Done
-carve_each [] m p a e = (m, Yes)
+unfoldable pub carve_each : List ℕ → Machine → (p a e : ℕ) → Machine × Result ⊤ Refusal
+carve_each [] m p a e = (m, Ok tt)
 carve_each (s ∷ l) m p a e =
     elim (first_of (split_refusals m p s a e)) [
-      | Yes ↦ carve_each l (split_at_bounds m p s a e) p a e
-      | No r ↦ (with_order m p (order_of m p ++ (s ∷ l)), No r)
+      | Ok tt ↦ carve_each l (split_at_bounds m p s a e) p a e
+      | Err r ↦ (with_order m p (order_of m p ++ (s ∷ l)), Err r)
     ]
 
 -- RULES V2: regions that overlap the range without lying inside it are taken out in list order
 abbrev pub partial : Machine → ℕ → ℕ → ℕ → ℕ → Bool
 partial m p a e s = overlaps (region_at m p s) a e && not (lies_inside (region_at m p s) a e)
 
-unfoldable pub carve_splits : Machine → ℕ → ℕ → ℕ → Machine × Done
+unfoldable pub carve_splits : Machine → ℕ → ℕ → ℕ → Machine × Result ⊤ Refusal
 carve_splits m p a e = carve_each (keep (partial m p a e) (order_of m p)) (with_order m p (keep (λ s. not (partial m p a e s)) (order_of m p))) p a e
 
 -- the slots of the regions inside the range, in list order
@@ -87,9 +85,9 @@ unfoldable pub inside_of : Machine → ℕ → ℕ → ℕ → List ℕ
 inside_of m p a e = keep (λ s. lies_inside (region_at m p s) a e) (order_of m p)
 
 -- RULES V4: InUse if a region inside is pinned, else the list of regions inside
-unfoldable pub carve_answer : Machine → ℕ → ℕ → ℕ → Done → Listed
-carve_answer m p a e (No r) = not_listed r
-carve_answer m p a e Yes = cond (any (λ s. is_pinned (region_at m p s)) (inside_of m p a e)) (not_listed InUse) (listing (starts_of m p (inside_of m p a e)))
+unfoldable pub carve_answer : Machine → ℕ → ℕ → ℕ → Result ⊤ Refusal → Listed
+carve_answer m p a e (Err r) = not_listed r
+carve_answer m p a e (Ok tt) = cond (any (λ s. is_pinned (region_at m p s)) (inside_of m p a e)) (not_listed InUse) (listing (starts_of m p (inside_of m p a e)))
 
 -- the Rust's carve; the splits are kept in any case
 unfoldable pub core_carve : State → ℕ → ℕ → ℕ → After Listed

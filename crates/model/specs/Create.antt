@@ -1,5 +1,5 @@
 -- Creation: its limits, its refusals, and the new region. RULES C3 to C11.
-use Rattle.std.specs.Prelude.{Bool, true, false, ◌&&◌, ◌||◌, not, cond, List, [], ◌∷◌, ◌++◌, ℕ, ◌+◌, ◌*◌, length, eqb, ltb, leb}
+use Rattle.std.specs.Prelude.{Bool, true, false, ◌&&◌, ◌||◌, not, cond, List, [], ◌∷◌, ◌++◌, ℕ, ◌+◌, ◌*◌, length, eqb, ltb, leb, Option, Some, None}
 use Rattle.address.specs.declared.VirtAddr.{VirtAddr}
 use Rattle.address.specs.Canonical.{user}
 use Rattle.address.specs.Flags.{good_flags}
@@ -12,8 +12,6 @@ use Rattle.model.specs.declared.ForkPolicy.{ForkPolicy}
 use Rattle.model.specs.declared.ForkPolicy.TheVariants.{CopyOnWrite, CopyEager}
 use Rattle.model.specs.declared.Population.{Population}
 use Rattle.model.specs.declared.Population.TheVariants.{Lazy, Eager}
-use Rattle.model.specs.declared.Found.{Found}
-use Rattle.model.specs.declared.Found.TheVariants.{At, Nothing}
 use Rattle.model.specs.Machine.{Machine, State, with_machine, with_frames, with_region, with_order, order_of, user_end}
 use Rattle.model.specs.Lookup.{is_open, is_file, is_shared, pages_for, free_slot, row_found, is_found}
 use Rattle.model.specs.Backing.{lowest_run, claim, zero_frames}
@@ -64,8 +62,8 @@ abbrev pub bad_size : Region → Bool
 bad_size r = eqb r.size 0 || ltb user_end r.size || ltb user_end r.offset || ltb r.size r.length
 
 -- where the segment goes (RULES C3): a given start or the lowest free one
-abbrev pub spot : Machine → ℕ → Place → ℕ → Found
-spot m p (Place.At a) len = cond (reserved m p a.0 len) Nothing (At a.0)
+abbrev pub spot : Machine → ℕ → Place → ℕ → Option ℕ
+spot m p (Place.At a) len = cond (reserved m p a.0 len) None (Some a.0)
 spot m p Place.Lowest len = lowest_start m p len
 
 abbrev pub spot_refusal : Place → Refusal
@@ -86,24 +84,24 @@ create_refusals m p place eager r =
     ∷ (not (is_found (free_slot m p)), TableFull) ∷ []
 
 -- the row as it is stored: with its start, and its range if it has one
-abbrev pub placed_at : Region → ℕ → Found → Region
-placed_at r start Nothing = record { kind = r.kind; start = record { 0 = start }; size = r.size; flags = r.flags; fork = r.fork; per_thread = r.per_thread; pins = 0; file = r.file; offset = r.offset; length = r.length; ranged = 0; range = record { 0 = 0 } }
-placed_at r start (At f) = record { kind = r.kind; start = record { 0 = start }; size = r.size; flags = r.flags; fork = r.fork; per_thread = r.per_thread; pins = 0; file = r.file; offset = r.offset; length = r.length; ranged = 1; range = record { 0 = f } }
+abbrev pub placed_at : Region → ℕ → Option ℕ → Region
+placed_at r start None = record { kind = r.kind; start = record { 0 = start }; size = r.size; flags = r.flags; fork = r.fork; per_thread = r.per_thread; pins = 0; file = r.file; offset = r.offset; length = r.length; ranged = 0; range = record { 0 = 0 } }
+placed_at r start (Some f) = record { kind = r.kind; start = record { 0 = start }; size = r.size; flags = r.flags; fork = r.fork; per_thread = r.per_thread; pins = 0; file = r.file; offset = r.offset; length = r.length; ranged = 1; range = record { 0 = f } }
 
 -- the Rust's add_region: new regions go last in the list (RULES C11); it takes the lowest free slot
 unfoldable pub add_region : Machine → ℕ → Region → Machine
 add_region m p r = let s = row_found (free_slot m p) in with_order (with_region m p s r) p (order_of m p ++ (s ∷ []))
 
 -- RULES C6, C7, a zeroed contiguous range or run: the lowest run, its frames zeroed
-unfoldable pub with_run : State → Found → ℕ → State
-with_run s Nothing n = s
-with_run s (At f) n = with_machine (with_frames s (zero_frames f n s.frames)) (claim s.machine f n)
+unfoldable pub with_run : State → Option ℕ → ℕ → State
+with_run s None n = s
+with_run s (Some f) n = with_machine (with_frames s (zero_frames f n s.frames)) (claim s.machine f n)
 
 -- creation maps nothing (RULES C10)
 unfoldable pub core_create : State → ℕ → Place → Bool → Region → State
 core_create s p place eager r =
     let start = row_found (spot s.machine p place (round_up r.size)) in
-    let run = cond (run_needed eager r) (lowest_run s.machine (pages_for r.size)) Nothing in
+    let run = cond (run_needed eager r) (lowest_run s.machine (pages_for r.size)) None in
     let held = with_run s run (pages_for r.size) in
     with_machine held (add_region held.machine p (placed_at r start run))
 

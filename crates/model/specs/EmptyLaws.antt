@@ -1,15 +1,15 @@
 -- The empty machine is sound: whatever the frames and files that start accepts.
 use Rattle.std.proofs.Math.Path.{◌≡◌, refl, sym}
 use Rattle.std.proofs.Common.{ap, ◌∙◌, le-ltb, leb-true, ltb-false, eqb-true}
-use Rattle.std.specs.Prelude.{Bool, not, ◌&&◌, cond, List, ℕ, zero, suc, ◌+◌, ◌/◌, ◌%◌, ◌≤◌, ◌<◌, get_or, take, replicate, ltb, leb}
+use Rattle.std.specs.Prelude.{Bool, not, ◌&&◌, cond, List, ℕ, zero, suc, ◌+◌, ◌/◌, ◌%◌, ◌≤◌, ◌<◌, get_or, take, replicate, ltb, leb, Ok, Err}
 use Rattle.std.proofs.Math.Bool.{true, false}
 use native.Mathlib.Omega.{arith}
 use Rattle.std.proofs.Math.ListN.{length, get_or-eq_default}
 use Rattle.std.proofs.lemmas.Bool.{not-false}
 use Rattle.laws.specs.TellsLaws.{tells_both}
 use Rattle.answers.specs.declared.Refusal.TheVariants.{BadTable}
+use Rattle.laws.specs.ResultLaws.{err_not_ok}
 use Rattle.model.specs.declared.File.{File}
-use Rattle.model.specs.declared.Done.TheVariants.{Yes, No}
 use Rattle.laws.specs.Lists.{pad, up_from, first}
 use Rattle.laws.specs.TestLaws.{tells_all, tells_le, tells_rows}
 use Rattle.model.specs.Machine.{State, with_machine, empty_machine, no_file, no_backing, no_region, no_entry}
@@ -98,12 +98,9 @@ module _ (s : State) (files : List File) where
     unfolding everything
     empty_sound = record { r1 = (r1_tells after.machine).yes refl; r2 = empty_r2; r3 = (r3_tells after.machine).yes refl; r4 = (r4_tells after.machine).yes refl; r5 = (r5_tells after.machine).yes refl; r6 = empty_r6 }
 
-  started : (b : Bool) → bad_lengths s files ≡ b → (calls.decided (cond b (No BadTable) Yes) No s (fine after)).answer ≡ Yes → Sound (calls.decided (cond b (No BadTable) Yes) No s (fine after)).state
+  started : (b : Bool) → bad_lengths s files ≡ b → (calls.decided (cond b (Err BadTable) (Ok tt)) Err s (fine after)).answer ≡ Ok tt → Sound (calls.decided (cond b (Err BadTable) (Ok tt)) Err s (fine after)).state
   unfolding bad_lengths
-  started true p e = absurd (never_yes e)
-    where
-      never_yes : No BadTable ≡ Yes → ⊥
-      never_yes h = let z : ◌≡◌ {A = ℕ} 0 1 = cc in omega arith
+  started true p e = absurd (err_not_ok e)
   started false p e =
       let a = or_none _ _ p in
       let b = or_none _ _ a.1 in
@@ -112,6 +109,6 @@ module _ (s : State) (files : List File) where
       ((tells_all no_file _ (λ f. (f.readable ≤ 1) × (f.offset + f.len ≤ length s.bytes)) (λ f. tells_both (tells_le f.readable 1) (tells_le (f.offset + f.len) (length s.bytes))) files).yes (not-false _ c.1))
 
   -- what start leaves where it succeeds is sound
-  pub start_sound : (calls.start s files).answer ≡ Yes → Sound (calls.start s files).state
+  pub start_sound : (calls.start s files).answer ≡ Ok tt → Sound (calls.start s files).state
   unfolding calls.start start_refusals first_of
   start_sound e = started (bad_lengths s files) refl e

@@ -1,13 +1,12 @@
 -- Page faults: which way a fault goes, what it needs, what it does. The Rust's handle_fault of the three kinds, map_and_fill.
-use Rattle.std.specs.Prelude.{Bool, true, false, ◌&&◌, not, cond, List, [], ◌∷◌, ℕ, ◌+◌, ◌-◌, min, get_or, set, take, drop, replicate, eqb, ltb, leb}
+use Rattle.std.specs.Prelude.{Bool, true, false, ◌&&◌, not, cond, List, [], ◌∷◌, ℕ, ◌+◌, ◌-◌, min, get_or, set, take, drop, replicate, eqb, ltb, leb, Option, Some, None}
+use Rattle.model.specs.declared.Mapping.{Mapping}
 use Rattle.address.specs.declared.PhysFrame.{PhysFrame}
 use Rattle.address.specs.Flags.{read_only}
 use Rattle.answers.specs.declared.Refusal.{Refusal}
 use Rattle.answers.specs.declared.Refusal.TheVariants.{NotAccessible, NotWritable, OutOfMemory, ReadFailed, MapFailed, TableFull}
 use Rattle.model.specs.declared.Region.{Region}
 use Rattle.model.specs.declared.File.{File}
-use Rattle.model.specs.declared.Translated.{Translated}
-use Rattle.model.specs.declared.Translated.TheVariants.{Mapped, NotMapped}
 use Rattle.model.specs.declared.Backed.{Backed}
 use Rattle.model.specs.declared.Backed.TheVariants.{ByEntry, ByRange, Unbacked}
 use Rattle.model.specs.declared.Way.{Way}
@@ -38,20 +37,20 @@ unmapped_way r (ByEntry i f n) w = backed_way r f n w
 unmapped_way r (ByRange f n) w = backed_way r f n w
 unmapped_way r Unbacked w = unbacked_way r w
 
-abbrev pub translated_way : Region → Translated → Backed → Bool → Way
-translated_way r (Mapped x) b w = cond (well_mapped (Mapped x) w) Already (mapped_way r b)
-translated_way r NotMapped b w = unmapped_way r b w
+abbrev pub translated_way : Region → Option Mapping → Backed → Bool → Way
+translated_way r (Some x) b w = cond (well_mapped (Some x) w) Already (mapped_way r b)
+translated_way r None b w = unmapped_way r b w
 
 -- RULES T1, T2: NotAccessible first; already mapped well enough: success
-unfoldable pub private_way : Region → Translated → Backed → Bool → Way
+unfoldable pub private_way : Region → Option Mapping → Backed → Bool → Way
 private_way r t b w = cond (is_user r.flags.0) (translated_way r t b w) (Refuse NotAccessible)
 
 -- RULES T11: Shared is mapped with all four flags; an unmapped page of it is always backed, by its range
-unfoldable pub shared_way : Translated → Backed → Way
-shared_way (Mapped x) b = Already
-shared_way NotMapped (ByEntry i f n) = Map f (record { 0 = all_four })
-shared_way NotMapped (ByRange f n) = Map f (record { 0 = all_four })
-shared_way NotMapped Unbacked = Refuse MapFailed
+unfoldable pub shared_way : Option Mapping → Backed → Way
+shared_way (Some x) b = Already
+shared_way None (ByEntry i f n) = Map f (record { 0 = all_four })
+shared_way None (ByRange f n) = Map f (record { 0 = all_four })
+shared_way None Unbacked = Refuse MapFailed
 
 unfoldable pub fault_way : Machine → ℕ → ℕ → ℕ → Bool → Way
 fault_way m p s page w =
@@ -69,9 +68,9 @@ no_room m p = leb pages (process_at m p).mapped
 abbrev pub no_entry_left : Machine → Bool
 no_entry_left m = not (is_found (free_entry m))
 
-abbrev pub is_mapped : Translated → Bool
-is_mapped (Mapped x) = true
-is_mapped NotMapped = false
+abbrev pub is_mapped : Option Mapping → Bool
+is_mapped (Some x) = true
+is_mapped None = false
 
 -- a copy of a range's page needs a new entry, that of an entry's page does not
 abbrev pub by_entry : Backed → Bool

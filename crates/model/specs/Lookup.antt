@@ -1,20 +1,18 @@
 -- Looking things up: the region at an address, spans, segments, covers, free slots and entries.
-use Rattle.std.specs.Prelude.{Bool, true, false, ◌&&◌, ◌||◌, not, cond, List, [], ◌∷◌, map, ℕ, zero, suc, ◌+◌, ◌*◌, ◌/◌, length, eqb, ltb, leb}
+use Rattle.std.specs.Prelude.{Bool, true, false, ◌&&◌, ◌||◌, not, cond, List, [], ◌∷◌, map, ℕ, zero, suc, ◌+◌, ◌*◌, ◌/◌, length, eqb, ltb, leb, Option, Some, None}
 use Rattle.model.specs.declared.Region.{Region}
-use Rattle.model.specs.declared.Found.{Found}
-use Rattle.model.specs.declared.Found.TheVariants.{At, Nothing}
 use Rattle.laws.specs.Lists.{part, among, count}
 use Rattle.model.specs.Machine.{Machine, process_at, region_at, order_of}
 
 -- the first of some slots that passes a test
-unfoldable pub first_slot : (ℕ → Bool) → List ℕ → Found
-first_slot f [] = Nothing
-first_slot f (s ∷ l) = let rest = first_slot f l in cond (f s) (At s) rest
+unfoldable pub first_slot : (ℕ → Bool) → List ℕ → Option ℕ
+first_slot f [] = None
+first_slot f (s ∷ l) = let rest = first_slot f l in cond (f s) (Some s) rest
 
 -- the first row that passes a test, where the list's first row is row i
-unfoldable pub first_row : {A : Type 0} → (A → Bool) → List A → ℕ → Found
-first_row f [] i = Nothing
-first_row f (x ∷ l) i = let rest = first_row f l (i + 1) in cond (f x) (At i) rest
+unfoldable pub first_row : {A : Type 0} → (A → Bool) → List A → ℕ → Option ℕ
+first_row f [] i = None
+first_row f (x ∷ l) i = let rest = first_row f l (i + 1) in cond (f x) (Some i) rest
 
 abbrev pub is_open : Machine → ℕ → Bool
 is_open m p = eqb (process_at m p).opened 1
@@ -68,11 +66,11 @@ abbrev pub regions_of : Machine → ℕ → List Region
 regions_of m p = part 64 p m.regions
 
 -- the Rust's region_for: the attached region at an address
-unfoldable pub region_for : Machine → ℕ → ℕ → Found
+unfoldable pub region_for : Machine → ℕ → ℕ → Option ℕ
 region_for m p a = first_slot (λ s. contains (region_at m p s) a) (order_of m p)
 
 -- unpin names a detached one too
-unfoldable pub any_region_for : Machine → ℕ → ℕ → Found
+unfoldable pub any_region_for : Machine → ℕ → ℕ → Option ℕ
 any_region_for m p a = first_row (λ r. is_used r && contains r a) (regions_of m p) 0
 
 abbrev pub is_attached : Machine → ℕ → ℕ → Bool
@@ -82,32 +80,32 @@ abbrev pub starts_of : Machine → ℕ → List ℕ → List ℕ
 starts_of m p l = map (λ s. (region_at m p s).start.0) l
 
 -- freed slots and entries are used again, lowest first (RULES N11)
-unfoldable pub free_slot : Machine → ℕ → Found
+unfoldable pub free_slot : Machine → ℕ → Option ℕ
 free_slot m p = first_row (λ r. eqb r.kind 0) (regions_of m p) 0
 
 unfoldable pub free_slots : Machine → ℕ → ℕ
 free_slots m p = count (λ r. eqb r.kind 0) (regions_of m p)
 
-unfoldable pub free_entry : Machine → Found
+unfoldable pub free_entry : Machine → Option ℕ
 free_entry m = first_row (λ e. eqb e.owner 0) m.entries 0
 
 unfoldable pub free_entries : Machine → ℕ
 free_entries m = count (λ e. eqb e.owner 0) m.entries
 
 -- the row of a search that is known to succeed
-abbrev pub row_found : Found → ℕ
-row_found (At i) = i
-row_found Nothing = 0
+abbrev pub row_found : Option ℕ → ℕ
+row_found (Some i) = i
+row_found None = 0
 
-abbrev pub is_found : Found → Bool
-is_found (At i) = true
-is_found Nothing = false
+abbrev pub is_found : Option ℕ → Bool
+is_found (Some i) = true
+is_found None = false
 
 -- the Rust's covers. Yes exactly when every address from start up to end lies in an attached region (RULES V5): from an address
 -- below the end go on to the end of the region there; each region is passed once, so as many steps as there are regions are enough
 unfoldable pub covered_from : ℕ → Machine → ℕ → ℕ → ℕ → Bool
 covered_from zero m p a e = leb e a
-covered_from (suc n) m p a e = leb e a || elim (region_for m p a) [ Nothing ↦ false | At s ↦ covered_from n m p (span_end (region_at m p s)) e ]
+covered_from (suc n) m p a e = leb e a || elim (region_for m p a) [ None ↦ false | Some s ↦ covered_from n m p (span_end (region_at m p s)) e ]
 
 unfoldable pub covered : Machine → ℕ → ℕ → ℕ → Bool
 covered m p a e = covered_from (length (order_of m p)) m p a e

@@ -1,22 +1,19 @@
 -- How many pages are mapped below a page, and what map, unmap and remap do to that number.
-use Rattle.std.specs.Prelude.{◌≡◌, Bool, true, false, not, length, eqb, ltb}
+use Rattle.std.specs.Prelude.{◌≡◌, Bool, true, false, not, length, eqb, ltb, Some}
 use Rattle.std.proofs.Math.Path.{refl, ap}
 use Rattle.std.proofs.Math.Bool.{cond}
 use mathlib.Core.List.{List, [], ◌∷◌}
 use Prim.Native.Nat.{ℕ, suc, ◌+◌, ◌≤◌, ◌<◌, zero-le, suc-le-suc}
 use Rattle.std.proofs.Common.{arith, ltb-true, ltb-false, eqb-true, lt-ltb}
+use Rattle.laws.specs.ResultLaws.{none_not_some}
 use Rattle.laws.specs.CountLaws.{count_most, count_more}
 use Rattle.model.specs.declared.Mapping.{Mapping}
-use Rattle.model.specs.declared.Translated.TheVariants.{Mapped, NotMapped}
 use Rattle.laws.specs.Lists.{keep, count}
 use Rattle.model.specs.Paging.{mapping, translate, map_page, unmap_page, remap_where}
 
 -- the mapped pages below page k
 abbrev pub below : ℕ → List Mapping → ℕ
 below k l = count (λ x. ltb x.page.0 k) l
-
-pub never_mapped : {x : Mapping} → NotMapped ≡ Mapped x → ⊥
-never_mapped {x} e = let z : ◌≡◌ {A = ℕ} 0 1 = cc in omega arith
 
 pub below_most : (k : ℕ) (l : List Mapping) → below k l ≤ length l
 below_most k l = count_most (λ x. ltb x.page.0 k) l
@@ -25,12 +22,12 @@ pub below_next : (k : ℕ) (l : List Mapping) → below k l ≤ below (suc k) l
 below_next k l = count_more (λ x. ltb x.page.0 k) (λ x. ltb x.page.0 (suc k)) (λ x e. let h = ltb-true x.page.0 k e in lt-ltb x.page.0 (suc k) (omega arith)) l
 
 -- a page that is mapped counts from the next one on
-pub below_here : (page : ℕ) (l : List Mapping) (x : Mapping) → translate l page ≡ Mapped x → suc (below page l) ≤ below (suc page) l
+pub below_here : (page : ℕ) (l : List Mapping) (x : Mapping) → translate l page ≡ Some x → suc (below page l) ≤ below (suc page) l
 unfolding count translate
-below_here page [] x e = absurd (never_mapped e)
+below_here page [] x e = absurd (none_not_some e)
 below_here page (y ∷ l) x e = go (eqb y.page.0 page) refl (ltb y.page.0 page) refl (ltb y.page.0 (suc page)) refl e (below_here page l x)
   where
-    go : (a : Bool) → eqb y.page.0 page ≡ a → (b : Bool) → ltb y.page.0 page ≡ b → (c : Bool) → ltb y.page.0 (suc page) ≡ c → cond a (Mapped y) (translate l page) ≡ Mapped x → (translate l page ≡ Mapped x → suc (below page l) ≤ below (suc page) l) → suc (cond b (below page l + 1) (below page l)) ≤ cond c (below (suc page) l + 1) (below (suc page) l)
+    go : (a : Bool) → eqb y.page.0 page ≡ a → (b : Bool) → ltb y.page.0 page ≡ b → (c : Bool) → ltb y.page.0 (suc page) ≡ c → cond a (Some y) (translate l page) ≡ Some x → (translate l page ≡ Some x → suc (below page l) ≤ below (suc page) l) → suc (cond b (below page l + 1) (below page l)) ≤ cond c (below (suc page) l + 1) (below (suc page) l)
     go true i true j c k f ih = let u = eqb-true y.page.0 page i in let v = ltb-true y.page.0 page j in absurd (omega arith)
     go true i false j true k f ih = let u = below_next page l in omega arith
     go true i false j false k f ih = let u = eqb-true y.page.0 page i in let v = ltb-false y.page.0 (suc page) k in absurd (omega arith)
@@ -88,12 +85,12 @@ length_unmap page (y ∷ l) = go (eqb y.page.0 page) (length_unmap page l)
     go true h = omega arith
     go false h = suc-le-suc h
 
-pub length_unmapped : (page : ℕ) (l : List Mapping) (x : Mapping) → translate l page ≡ Mapped x → length (unmap_page l page) < length l
+pub length_unmapped : (page : ℕ) (l : List Mapping) (x : Mapping) → translate l page ≡ Some x → length (unmap_page l page) < length l
 unfolding unmap_page keep translate
-length_unmapped page [] x e = absurd (never_mapped e)
+length_unmapped page [] x e = absurd (none_not_some e)
 length_unmapped page (y ∷ l) x e = go (eqb y.page.0 page) e (length_unmap page l) (length_unmapped page l x)
   where
-    go : (a : Bool) → cond a (Mapped y) (translate l page) ≡ Mapped x → length (unmap_page l page) ≤ length l → (translate l page ≡ Mapped x → length (unmap_page l page) < length l) → length (cond (not a) (y ∷ unmap_page l page) (unmap_page l page)) < suc (length l)
+    go : (a : Bool) → cond a (Some y) (translate l page) ≡ Some x → length (unmap_page l page) ≤ length l → (translate l page ≡ Some x → length (unmap_page l page) < length l) → length (cond (not a) (y ∷ unmap_page l page) (unmap_page l page)) < suc (length l)
     go true f h ih = suc-le-suc h
     go false f h ih = suc-le-suc (ih f)
 

@@ -1,15 +1,10 @@
 -- The calls that code has, as the model's, and their answers as number and values (RULES O1).
-use Rattle.std.specs.Prelude.{Bool, true, false, List, ◌∷◌, ℕ}
+use Rattle.std.specs.Prelude.{Bool, true, false, List, ◌∷◌, ℕ, Err}
 use Rattle.model.specs.declared.Call as code
 use Rattle.model.specs.declared.Call.TheVariants as asks
 use Rattle.model.specs.declared.Answer as code_answer
 use Rattle.model.specs.declared.Answer.TheVariants as says
 use Rattle.answers.specs.declared.Refusal.{Refusal}
-use Rattle.model.specs.declared.Done.TheVariants.{No}
-use Rattle.model.specs.declared.Opened.{Opened}
-use Rattle.model.specs.declared.Placed.{Placed}
-use Rattle.model.specs.declared.Covering.{Covering}
-use Rattle.model.specs.declared.Loaded.{Loaded}
 use Rattle.model.specs.Answers.{Reply, of_done, of_opened, of_placed, of_covering, of_loaded}
 use Rattle.model.specs.Create.{is_copy, is_eager}
 use Rattle.model.specs.Run.{Call}
@@ -51,28 +46,28 @@ reply (says.Counted r) starts = record { number = (of_done r.done).number; value
 
 -- a refusal in the shape of a call's answer
 unfoldable pub refused : code.Call → Refusal → code_answer.Answer
-refused asks.Sound why = says.Done (No why)
-refused (asks.Open a size) why = says.Opened (Opened.No why)
-refused (asks.Close p) why = says.Done (No why)
-refused (asks.CreatePrivate p place population size flags fork thread) why = says.Placed (Placed.No why)
-refused (asks.CreateFile p place size flags fork thread file offset len) why = says.Placed (Placed.No why)
-refused (asks.CreateShared p place size) why = says.Placed (Placed.No why)
-refused (asks.Remove p a) why = says.Done (No why)
-refused (asks.Clear p) why = says.Done (No why)
-refused (asks.Carve p a e) why = says.Counted (record { done = No why; count = 0 })
-refused (asks.Covers p a e) why = says.Covering (Covering.No why)
-refused (asks.Region p a) why = says.Placed (Placed.No why)
-refused (asks.Regions p) why = says.Counted (record { done = No why; count = 0 })
-refused (asks.Fault p a w) why = says.Done (No why)
-refused (asks.Populate p a len w) why = says.Done (No why)
-refused (asks.Eager p) why = says.Done (No why)
-refused (asks.CloneRegion p a q) why = says.Done (No why)
-refused (asks.Clone p q) why = says.Done (No why)
-refused (asks.Protect p a flags) why = says.Done (No why)
-refused (asks.Pin p a) why = says.Done (No why)
-refused (asks.Unpin p a) why = says.Done (No why)
-refused (asks.Load p a) why = says.Loaded (Loaded.No why)
-refused (asks.Store p a b) why = says.Done (No why)
+refused asks.Sound why = says.Done (Err why)
+refused (asks.Open a size) why = says.Opened (Err why)
+refused (asks.Close p) why = says.Done (Err why)
+refused (asks.CreatePrivate p place population size flags fork thread) why = says.Placed (Err why)
+refused (asks.CreateFile p place size flags fork thread file offset len) why = says.Placed (Err why)
+refused (asks.CreateShared p place size) why = says.Placed (Err why)
+refused (asks.Remove p a) why = says.Done (Err why)
+refused (asks.Clear p) why = says.Done (Err why)
+refused (asks.Carve p a e) why = says.Counted (record { done = Err why; count = 0 })
+refused (asks.Covers p a e) why = says.Covering (Err why)
+refused (asks.Region p a) why = says.Placed (Err why)
+refused (asks.Regions p) why = says.Counted (record { done = Err why; count = 0 })
+refused (asks.Fault p a w) why = says.Done (Err why)
+refused (asks.Populate p a len w) why = says.Done (Err why)
+refused (asks.Eager p) why = says.Done (Err why)
+refused (asks.CloneRegion p a q) why = says.Done (Err why)
+refused (asks.Clone p q) why = says.Done (Err why)
+refused (asks.Protect p a flags) why = says.Done (Err why)
+refused (asks.Pin p a) why = says.Done (Err why)
+refused (asks.Unpin p a) why = says.Done (Err why)
+refused (asks.Load p a) why = says.Loaded (Err why)
+refused (asks.Store p a b) why = says.Done (Err why)
 
 -- whether an answer is one that lists starts
 unfoldable pub counts : code_answer.Answer → Bool

@@ -1,11 +1,9 @@
 -- The page table of a process in the flat model: mapper.rs's map, unmap, remap and translate over its mappings in page order.
-use Rattle.std.specs.Prelude.{Bool, false, ◌||◌, not, cond, List, [], ◌∷◌, map, ℕ, ◌+◌, ◌*◌, ◌^◌, eqb, ltb}
+use Rattle.std.specs.Prelude.{Bool, false, ◌||◌, not, cond, List, [], ◌∷◌, map, ℕ, ◌+◌, ◌*◌, ◌^◌, eqb, ltb, Option, Some, None}
 use Rattle.address.specs.Bits.{has}
 use Rattle.address.specs.Flags.{writable, user_accessible}
 use Rattle.model.specs.declared.Region.{Region}
 use Rattle.model.specs.declared.Mapping.{Mapping}
-use Rattle.model.specs.declared.Translated.{Translated}
-use Rattle.model.specs.declared.Translated.TheVariants.{Mapped, NotMapped}
 use Rattle.laws.specs.Lists.{keep}
 use Rattle.model.specs.Machine.{Machine, mapped_of, with_mapped}
 use Rattle.model.specs.Lookup.{contains}
@@ -28,9 +26,9 @@ abbrev pub all_four : ℕ
 all_four = 1 + 2 + 4 + 2 ^ 63
 
 -- translate: what a page is mapped to
-unfoldable pub translate : List Mapping → ℕ → Translated
-translate [] page = NotMapped
-translate (x ∷ l) page = let rest = translate l page in cond (eqb x.page.0 page) (Mapped x) rest
+unfoldable pub translate : List Mapping → ℕ → Option Mapping
+translate [] page = None
+translate (x ∷ l) page = let rest = translate l page in cond (eqb x.page.0 page) (Some x) rest
 
 -- map: a page that is not mapped yet, put in its place
 unfoldable pub map_page : List Mapping → Mapping → List Mapping
@@ -54,6 +52,6 @@ unfoldable pub unmap_from : Machine → ℕ → Region → Machine
 unmap_from m p r = with_mapped m p (keep (λ x. not (maps_in r x)) (mapped_of m p))
 
 -- mapped well enough (RULES T2): mapped, and for a write mapped writable
-abbrev pub well_mapped : Translated → Bool → Bool
-well_mapped NotMapped w = false
-well_mapped (Mapped x) w = not w || is_writable x.flags.0
+abbrev pub well_mapped : Option Mapping → Bool → Bool
+well_mapped None w = false
+well_mapped (Some x) w = not w || is_writable x.flags.0

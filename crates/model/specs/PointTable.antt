@@ -1,12 +1,11 @@
 -- What a row of the points' table says: calls of a lone manager and of a machine, what each answers, and what is seen between them.
-use Rattle.std.specs.Prelude.{◌≡◌, Bool, true, false, ◌&&◌, List, [], ◌∷◌, ◌++◌, map, ℕ, length, replicate, eqb}
+use Rattle.std.specs.Prelude.{◌≡◌, Bool, true, false, ◌&&◌, List, [], ◌∷◌, ◌++◌, map, ℕ, length, replicate, eqb, Option, Some, None}
+use Rattle.model.specs.declared.Mapping.{Mapping}
 use Rattle.answers.specs.declared.Refusal.{Refusal}
 use Rattle.answers.specs.Number.{number_of}
 use Rattle.segments.specs.declared.table.VirtualMemoryManager.{VirtualMemoryManager}
 use Rattle.segments.specs.Run as managers
 use Rattle.segments.specs.PointForm as segment
-use Rattle.model.specs.declared.Translated.{Translated}
-use Rattle.model.specs.declared.Translated.TheVariants.{Mapped, NotMapped}
 use Rattle.laws.specs.Lists.{pad}
 use Rattle.model.specs.Machine.{Machine, State, mapped_of, order_of, region_at}
 use Rattle.model.specs.Answers.{Reply}
@@ -26,9 +25,9 @@ unfoldable pub spans_of : Machine → ℕ → List ℕ → List ℕ
 spans_of m p [] = []
 spans_of m p (s ∷ l) = (region_at m p s).start.0 ∷ (region_at m p s).size ∷ spans_of m p l
 
-abbrev pub mapping_of : Translated → List ℕ
-mapping_of NotMapped = []
-mapping_of (Mapped x) = x.frame.0 ∷ x.flags.0 ∷ []
+abbrev pub mapping_of : Option Mapping → List ℕ
+mapping_of None = []
+mapping_of (Some x) = x.frame.0 ∷ x.flags.0 ∷ []
 
 unfoldable pub look : Look → Machine → List ℕ
 look (spans p) m = spans_of m p (order_of m p)

@@ -1,9 +1,7 @@
 -- Populate and eager populate: faults over many pages, in rising order.
-use Rattle.std.specs.Prelude.{Bool, true, false, ◌&&◌, ◌||◌, not, cond, List, [], ◌∷◌, map, ℕ, zero, suc, ◌+◌, ◌-◌, ◌/◌, ◌^◌, eqb, ltb, leb}
+use Rattle.std.specs.Prelude.{Bool, true, false, ◌&&◌, ◌||◌, not, cond, List, [], ◌∷◌, map, ℕ, zero, suc, ◌+◌, ◌-◌, ◌/◌, ◌^◌, eqb, ltb, leb, Option, Some, None}
 use Rattle.address.specs.Canonical.{canonical, user}
 use Rattle.model.specs.declared.Region.{Region}
-use Rattle.model.specs.declared.Found.{Found}
-use Rattle.model.specs.declared.Found.TheVariants.{At, Nothing}
 use Rattle.model.specs.Machine.{Machine, State, region_at, order_of, mapped_of, pages, slots}
 use Rattle.model.specs.Answers.{Try, fine, and_then}
 use Rattle.model.specs.Lookup.{region_for, is_private}
@@ -11,16 +9,16 @@ use Rattle.model.specs.Paging.{page_start, translate, well_mapped, is_user, is_w
 use Rattle.model.specs.Fault.{handle_fault}
 
 -- the lowest of some numbers that is above n, with one number more
-abbrev pub lower : ℕ → ℕ → Found → Found
-lower n x Nothing = cond (ltb n x) (At x) Nothing
-lower n x (At y) = cond (ltb n x && ltb x y) (At x) (At y)
+abbrev pub lower : ℕ → ℕ → Option ℕ → Option ℕ
+lower n x None = cond (ltb n x) (Some x) None
+lower n x (Some y) = cond (ltb n x && ltb x y) (Some x) (Some y)
 
-unfoldable pub lowest_above : ℕ → List ℕ → Found
-lowest_above n [] = Nothing
+unfoldable pub lowest_above : ℕ → List ℕ → Option ℕ
+lowest_above n [] = None
 lowest_above n (x ∷ l) = lower n x (lowest_above n l)
 
 -- the next page above a page at which an attached region starts: the pages between lie in no region
-unfoldable pub next_start : Machine → ℕ → ℕ → Found
+unfoldable pub next_start : Machine → ℕ → ℕ → Option ℕ
 next_start m p page = lowest_above page (map (λ s. (region_at m p s).start.0 / 4096) (order_of m p))
 
 -- one page: skipped if mapped well enough (RULES U1)
@@ -30,9 +28,9 @@ populate_page s p slot page w =
     cond (well_mapped (translate (mapped_of s.machine p) page) w) (fine s) fault
 
 -- what populate means: n pages from `page` on, each in turn; a page in no region is skipped
-abbrev pub page_in : Found → State → (p page : ℕ) → Bool → Try
-page_in (At slot) s p page w = populate_page s p slot page w
-page_in Nothing s p page w = fine s
+abbrev pub page_in : Option ℕ → State → (p page : ℕ) → Bool → Try
+page_in (Some slot) s p page w = populate_page s p slot page w
+page_in None s p page w = fine s
 
 abbrev pub one_page : State → (p page : ℕ) → Bool → Try
 one_page s p page w = page_in (region_for s.machine p (page_start page)) s p page w
@@ -49,10 +47,10 @@ visit (suc n) s p page last w =
     elim (ltb last page) [
       | true ↦ fine s
       | false ↦ elim (region_for s.machine p (page_start page)) [
-        | At slot ↦ and_then (populate_page s p slot page w) (λ t. visit n t p (page + 1) last w)
-        | Nothing ↦ elim (next_start s.machine p page) [
-          | At next ↦ visit n s p next last w
-          | Nothing ↦ fine s
+        | Some slot ↦ and_then (populate_page s p slot page w) (λ t. visit n t p (page + 1) last w)
+        | None ↦ elim (next_start s.machine p page) [
+          | Some next ↦ visit n s p next last w
+          | None ↦ fine s
         ]
       ]
     ]

@@ -1,5 +1,5 @@
 -- Populate's walk from page to page and from gap to region is every page of the range in turn.
-use Rattle.std.specs.Prelude.{◌≡◌, Bool, ◌&&◌, ◌||◌, cond, List, [], ◌∷◌, map, get_or, eqb}
+use Rattle.std.specs.Prelude.{◌≡◌, Bool, ◌&&◌, ◌||◌, cond, List, [], ◌∷◌, map, get_or, eqb, Option, Some, None, Result, Ok, Err, ⊤}
 use Rattle.std.proofs.Math.Path.{refl, ap, sym}
 use Rattle.std.proofs.Common.{subst, ◌∙◌, add-one}
 use Rattle.std.proofs.Math.Bool.{true, false}
@@ -8,10 +8,7 @@ use Prim.Native.Nat.{ℕ, zero, suc, ◌+◌, ◌-◌, ◌/◌, ◌%◌, ◌≤�
 use native.Mathlib.Omega.{arith}
 use Rattle.std.proofs.Math.Dec.{ltb}
 use borrow.Author.Tests.{ltb-true, ltb-false, leb-true, eqb-true, lt-ltb, le-ltb, le-leb, eq-eqb}
-use Rattle.model.specs.declared.Found.{Found}
-use Rattle.model.specs.declared.Found.TheVariants.{At, Nothing}
-use Rattle.model.specs.declared.Done.{Done}
-use Rattle.model.specs.declared.Done.TheVariants.{Yes, No}
+use Rattle.answers.specs.declared.Refusal.{Refusal}
 use Rattle.laws.specs.Lists.{any, among, count}
 use Rattle.model.specs.Machine.{Machine, State, region_at, row_of, order_of, mapped_of, no_region}
 use Rattle.model.specs.Answers.{Try, fine, and_then}
@@ -33,9 +30,9 @@ pub record Lowest (g : ℕ → ℕ) (l : List ℕ) (n y : ℕ) : Type 0 where
   pub listed : among slot l ≡ true
   pub is : g slot ≡ y
 
-abbrev Spec : (ℕ → ℕ) → List ℕ → ℕ → Found → Type 0
-Spec g l n Nothing = (s : ℕ) → among s l ≡ true → g s ≤ n
-Spec g l n (At y) = Lowest g l n y
+abbrev Spec : (ℕ → ℕ) → List ℕ → ℕ → Option ℕ → Type 0
+Spec g l n None = (s : ℕ) → among s l ≡ true → g s ≤ n
+Spec g l n (Some y) = Lowest g l n y
 
 -- a listed slot is the first or one of the rest
 either_slot : (Q : ℕ → Type 0) (t : ℕ) (l : List ℕ) (s : ℕ) → among s (t ∷ l) ≡ true → Q t → (among s l ≡ true → Q s) → Q s
@@ -55,7 +52,7 @@ unfolding any
 rest_listed t l s h = or_right (eqb s t) _ h
 
 module _ (g : ℕ → ℕ) (t : ℕ) (l : List ℕ) (n : ℕ) where
-  spec_none : ((s : ℕ) → among s l ≡ true → g s ≤ n) → (b : Bool) → ltb n (g t) ≡ b → Spec g (t ∷ l) n (cond b (At (g t)) Nothing)
+  spec_none : ((s : ℕ) → among s l ≡ true → g s ≤ n) → (b : Bool) → ltb n (g t) ≡ b → Spec g (t ∷ l) n (cond b (Some (g t)) None)
   spec_none none true e = record {
     above = ltb-true n (g t) e;
     least = λ s h. either_slot (λ r. n < g r → g t ≤ g r) t l s h (λ k. omega arith) (λ k m. let x = none s k in absurd (omega arith));
@@ -65,7 +62,7 @@ module _ (g : ℕ → ℕ) (t : ℕ) (l : List ℕ) (n : ℕ) where
   }
   spec_none none false e = λ s h. either_slot (λ r. g r ≤ n) t l s h (ltb-false n (g t) e) (λ k. none s k)
 
-  spec_some : (y : ℕ) → Lowest g l n y → (b : Bool) → ltb n (g t) ≡ b → (c : Bool) → ltb (g t) y ≡ c → Spec g (t ∷ l) n (cond (b && c) (At (g t)) (At y))
+  spec_some : (y : ℕ) → Lowest g l n y → (b : Bool) → ltb n (g t) ≡ b → (c : Bool) → ltb (g t) y ≡ c → Spec g (t ∷ l) n (cond (b && c) (Some (g t)) (Some y))
   spec_some y low true e true k = record {
     above = ltb-true n (g t) e;
     least = λ s h. either_slot (λ r. n < g r → g t ≤ g r) t l s h (λ i. omega arith) (λ i m. let x = low.least s i m in let z = ltb-true (g t) y k in omega arith);
@@ -88,9 +85,9 @@ module _ (g : ℕ → ℕ) (t : ℕ) (l : List ℕ) (n : ℕ) where
     is = low.is;
   }
 
-  spec_lower : (r : Found) → Spec g l n r → Spec g (t ∷ l) n (lower n (g t) r)
-  spec_lower Nothing none = spec_none none (ltb n (g t)) refl
-  spec_lower (At y) low = spec_some y low (ltb n (g t)) refl (ltb (g t) y) refl
+  spec_lower : (r : Option ℕ) → Spec g l n r → Spec g (t ∷ l) n (lower n (g t) r)
+  spec_lower None none = spec_none none (ltb n (g t)) refl
+  spec_lower (Some y) low = spec_some y low (ltb n (g t)) refl (ltb (g t) y) refl
 
 lowest_spec : (g : ℕ → ℕ) (l : List ℕ) (n : ℕ) → Spec g l n (lowest_above n (map g l))
 unfolding lowest_above any
@@ -108,13 +105,13 @@ module _ (m : Machine) (p : ℕ) (al : Aligned m p) where
   start_page s = (region_at m p s).start.0 / 4096
 
   -- from a page in no region on there is none before the next start
-  gap : (page x : ℕ) → region_for m p (page_start page) ≡ Nothing → page ≤ x → ((s : ℕ) → among s (order_of m p) ≡ true → page < start_page s → x < start_page s) → region_for m p (page_start x) ≡ Nothing
+  gap : (page x : ℕ) → region_for m p (page_start page) ≡ None → page ≤ x → ((s : ℕ) → among s (order_of m p) ≡ true → page < start_page s → x < start_page s) → region_for m p (page_start x) ≡ None
   unfolding region_for
   gap page x none h before = go (region_for m p (page_start x)) refl
     where
-      go : (r : Found) → region_for m p (page_start x) ≡ r → r ≡ Nothing
-      go Nothing e = refl
-      go (At s) e =
+      go : (r : Option ℕ) → region_for m p (page_start x) ≡ r → r ≡ None
+      go None e = refl
+      go (Some s) e =
           let found = first_found _ (order_of m p) s e in
           let c = both_true _ _ found.0 in
           let low = leb-true _ _ c.0 in
@@ -129,11 +126,11 @@ module _ (m : Machine) (p : ℕ) (al : Aligned m p) where
               clash (rw (le-leb (region_at m p s).start.0 (page_start page) (omega arith)) (lt-ltb (page_start page) (span_end (region_at m p s)) (omega arith))) (first_none _ (order_of m p) none s listed)
 
 -- a page of a gap changes nothing
-skip_one : (k : ℕ) (s : State) (p page : ℕ) (w : Bool) → region_for s.machine p (page_start page) ≡ Nothing → every_page (suc k) s p page w ≡ every_page k s p (page + 1) w
+skip_one : (k : ℕ) (s : State) (p page : ℕ) (w : Bool) → region_for s.machine p (page_start page) ≡ None → every_page (suc k) s p page w ≡ every_page k s p (page + 1) w
 unfolding every_page
 skip_one k s p page w e = ap (λ r. and_then (page_in r s p page w) (λ t. every_page k t p (page + 1) w)) e
 
-skip : (j k : ℕ) (s : State) (p page : ℕ) (w : Bool) → ((x : ℕ) → page ≤ x → x < page + j → region_for s.machine p (page_start x) ≡ Nothing) → every_page (j + k) s p page w ≡ every_page k s p (page + j) w
+skip : (j k : ℕ) (s : State) (p page : ℕ) (w : Bool) → ((x : ℕ) → page ≤ x → x < page + j → region_for s.machine p (page_start x) ≡ None) → every_page (j + k) s p page w ≡ every_page k s p (page + j) w
 skip zero k s p page w h = λ i. every_page (zeroth i) s p (same i) w
   where
     zeroth : 0 + k ≡ k
@@ -182,12 +179,12 @@ below_later m p a (suc j) = subst (λ (n : ℕ). below a (mapped_of m p) ≤ bel
     both : {x y z : ℕ} → x ≤ y → y ≤ z → x ≤ z
     both h k = omega arith
 
-same_then : (t : Try) (f g : State → Try) → (t.answer ≡ Yes → f t.state ≡ g t.state) → and_then t f ≡ and_then t g
+same_then : (t : Try) (f g : State → Try) → (t.answer ≡ Ok tt → f t.state ≡ g t.state) → and_then t f ≡ and_then t g
 same_then t f g h = go t.answer h
   where
-    go : (d : Done) → (d ≡ Yes → f t.state ≡ g t.state) → and_then (record { answer = d; state = t.state }) f ≡ and_then (record { answer = d; state = t.state }) g
-    go Yes k = k refl
-    go (No r) k = refl
+    go : (d : Result ⊤ Refusal) → (d ≡ Ok tt → f t.state ≡ g t.state) → and_then (record { answer = d; state = t.state }) f ≡ and_then (record { answer = d; state = t.state }) g
+    go (Ok tt) k = k refl
+    go (Err r) k = refl
 
 none_same : (s : State) (p a b : ℕ) (w : Bool) → every_page 0 s p a w ≡ every_page 0 s p b w
 unfolding every_page
@@ -211,13 +208,13 @@ module _ (p last : ℕ) (w : Bool) where
     one_more : suc last - page ≡ suc left
     one_more = omega arith
 
-    in_region : (slot : ℕ) → region_for s.machine p (page_start page) ≡ At slot → and_then (populate_page s p slot page w) (λ t. visit n t p (page + 1) last w) ≡ every_page (suc last - page) s p page w
+    in_region : (slot : ℕ) → region_for s.machine p (page_start page) ≡ Some slot → and_then (populate_page s p slot page w) (λ t. visit n t p (page + 1) last w) ≡ every_page (suc last - page) s p page w
     unfolding every_page
     in_region slot found =
         same_then (populate_page s p slot page w) _ _ next
         ∙ ap (λ r. and_then (page_in r s p page w) (λ t. every_page left t p (page + 1) w)) (sym found) ∙ ap (λ (k : ℕ). every_page k s p page w) (sym one_more)
       where
-        next : (populate_page s p slot page w).answer ≡ Yes → visit n (populate_page s p slot page w).state p (page + 1) last w ≡ every_page left (populate_page s p slot page w).state p (page + 1) w
+        next : (populate_page s p slot page w).answer ≡ Ok tt → visit n (populate_page s p slot page w).state p (page + 1) last w ≡ every_page left (populate_page s p slot page w).state p (page + 1) w
         next good =
             let m = s.machine in
             let t = (populate_page s p slot page w).state in
@@ -230,10 +227,10 @@ module _ (p last : ℕ) (w : Bool) where
             ih t (page + 1) went.fits (aligned_kept m t.machine p went.regions went.order al) (omega arith) ∙ ap (λ (k : ℕ). every_page k t p (page + 1) w) rest
 
     -- a gap that ends at a region's start
-    to_start : region_for s.machine p (page_start page) ≡ Nothing → (next : ℕ) → Lowest (λ r. (region_at s.machine p r).start.0 / 4096) (order_of s.machine p) page next → visit n s p next last w ≡ every_page (suc last - page) s p page w
+    to_start : region_for s.machine p (page_start page) ≡ None → (next : ℕ) → Lowest (λ r. (region_at s.machine p r).start.0 / 4096) (order_of s.machine p) page next → visit n s p next last w ≡ every_page (suc last - page) s p page w
     to_start none next low = go (ltb (suc last) next) refl
       where
-        gone : (x : ℕ) → page ≤ x → x < next → region_for s.machine p (page_start x) ≡ Nothing
+        gone : (x : ℕ) → page ≤ x → x < next → region_for s.machine p (page_start x) ≡ None
         gone x a b = gap s.machine p al page x none a (λ r listed above. let k = low.least r listed above in omega arith)
 
         walked : visit n s p next last w ≡ every_page (suc last - next) s p next w
@@ -259,20 +256,20 @@ module _ (p last : ℕ) (w : Bool) where
             walked ∙ ap (λ (k : ℕ). every_page (suc last - next) s p k w) (sym there) ∙ sym (skip (next - page) (suc last - next) s p page w (λ x a b. gone x a (omega arith))) ∙ ap (λ (k : ℕ). every_page k s p page w) whole
 
     -- a gap without an end
-    to_none : region_for s.machine p (page_start page) ≡ Nothing → ((r : ℕ) → among r (order_of s.machine p) ≡ true → (region_at s.machine p r).start.0 / 4096 ≤ page) → fine s ≡ every_page (suc last - page) s p page w
+    to_none : region_for s.machine p (page_start page) ≡ None → ((r : ℕ) → among r (order_of s.machine p) ≡ true → (region_at s.machine p r).start.0 / 4096 ≤ page) → fine s ≡ every_page (suc last - page) s p page w
     unfolding every_page
     to_none none all =
         let here : suc last - page + 0 ≡ suc last - page = omega arith in
         sym (skip (suc last - page) 0 s p page w (λ x a b. gap s.machine p al page x none a (λ r listed above. let k = all r listed in absurd (omega arith)))) ∙ ap (λ (k : ℕ). every_page k s p page w) here
 
-    in_gap : region_for s.machine p (page_start page) ≡ Nothing → (x : Found) → next_start s.machine p page ≡ x → elim x [ At next ↦ visit n s p next last w | Nothing ↦ fine s ] ≡ every_page (suc last - page) s p page w
+    in_gap : region_for s.machine p (page_start page) ≡ None → (x : Option ℕ) → next_start s.machine p page ≡ x → elim x [ Some next ↦ visit n s p next last w | None ↦ fine s ] ≡ every_page (suc last - page) s p page w
     unfolding next_start
-    in_gap none (At next) q = to_start none next (subst (λ r. Spec (λ r. (region_at s.machine p r).start.0 / 4096) (order_of s.machine p) page r) q (lowest_spec _ (order_of s.machine p) page))
-    in_gap none Nothing q = to_none none (subst (λ r. Spec (λ r. (region_at s.machine p r).start.0 / 4096) (order_of s.machine p) page r) q (lowest_spec _ (order_of s.machine p) page))
+    in_gap none (Some next) q = to_start none next (subst (λ r. Spec (λ r. (region_at s.machine p r).start.0 / 4096) (order_of s.machine p) page r) q (lowest_spec _ (order_of s.machine p) page))
+    in_gap none None q = to_none none (subst (λ r. Spec (λ r. (region_at s.machine p r).start.0 / 4096) (order_of s.machine p) page r) q (lowest_spec _ (order_of s.machine p) page))
 
-    on_page : (r : Found) → region_for s.machine p (page_start page) ≡ r → elim r [ At slot ↦ and_then (populate_page s p slot page w) (λ t. visit n t p (page + 1) last w) | Nothing ↦ elim (next_start s.machine p page) [ At next ↦ visit n s p next last w | Nothing ↦ fine s ] ] ≡ every_page (suc last - page) s p page w
-    on_page (At slot) q = in_region slot q
-    on_page Nothing q = in_gap q (next_start s.machine p page) refl
+    on_page : (r : Option ℕ) → region_for s.machine p (page_start page) ≡ r → elim r [ Some slot ↦ and_then (populate_page s p slot page w) (λ t. visit n t p (page + 1) last w) | None ↦ elim (next_start s.machine p page) [ Some next ↦ visit n s p next last w | None ↦ fine s ] ] ≡ every_page (suc last - page) s p page w
+    on_page (Some slot) q = in_region slot q
+    on_page None q = in_gap q (next_start s.machine p page) refl
 
   -- populate's walk is every page from `page` to `last` in turn
   pub visit_every : (n : ℕ) → Walks n
@@ -280,6 +277,6 @@ module _ (p last : ℕ) (w : Bool) where
   visit_every zero s page f al e = let k = below_most page (mapped_of s.machine p) in let h = f.few in absurd (omega arith)
   visit_every (suc n) s page f al e = go (ltb last page) refl (visit_every n)
     where
-      go : (b : Bool) → ltb last page ≡ b → Walks n → elim b [ true ↦ fine s | false ↦ elim (region_for s.machine p (page_start page)) [ At slot ↦ and_then (populate_page s p slot page w) (λ t. visit n t p (page + 1) last w) | Nothing ↦ elim (next_start s.machine p page) [ At next ↦ visit n s p next last w | Nothing ↦ fine s ] ] ] ≡ every_page (suc last - page) s p page w
+      go : (b : Bool) → ltb last page ≡ b → Walks n → elim b [ true ↦ fine s | false ↦ elim (region_for s.machine p (page_start page)) [ Some slot ↦ and_then (populate_page s p slot page w) (λ t. visit n t p (page + 1) last w) | None ↦ elim (next_start s.machine p page) [ Some next ↦ visit n s p next last w | None ↦ fine s ] ] ] ≡ every_page (suc last - page) s p page w
       go true q ih = let past = ltb-true last page q in let none : suc last - page ≡ 0 = omega arith in ap (λ (k : ℕ). every_page k s p page w) (sym none)
       go false q ih = on_page n ih s page f al e (ltb-false last page q) (region_for s.machine p (page_start page)) refl

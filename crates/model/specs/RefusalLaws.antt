@@ -1,17 +1,17 @@
 -- RULES O4, of several the lowest number: every call's tests stand in the order of their numbers, so the first that is true is the lowest.
-use Rattle.std.specs.Prelude.{◌≡◌, refl, Bool, true, false, ◌&&◌, cond, List, [], ◌∷◌, ℕ, zero, suc, ◌≤◌, ◌<◌, length, get_or, leb}
+use Rattle.std.specs.Prelude.{◌≡◌, refl, Bool, true, false, ◌&&◌, cond, List, [], ◌∷◌, ℕ, zero, suc, ◌≤◌, ◌<◌, length, get_or, leb, Err}
 use Rattle.std.proofs.Common.{ap, sym, ◌∙◌, le_of_suc-le-suc, not-suc-le-zero, arith, leb-true}
 use Rattle.std.proofs.lemmas.Bool.{false≢true}
 use Rattle.laws.specs.BoolLaws.{both_true}
 use Rattle.answers.specs.declared.Refusal.{Refusal}
 use Rattle.answers.specs.declared.Refusal.TheVariants.{BadTable, NoProcess, BadAddress, BadRange, BadFlags, NoFile, NoRegion, NoSpace, SegmentReserved, InvalidSplitPoint, NotReserved, NotAccessible, NotWritable, OutOfMemory, ReadFailed, MapFailed, UnsupportedRegion, EagerBacking, Shared, InUse, TableFull, Denied}
 use Rattle.answers.specs.Number.{number_of}
+use Rattle.laws.specs.ResultLaws.{err_same}
 use Rattle.model.specs.declared.Region.{Region}
 use Rattle.model.specs.declared.File.{File}
 use Rattle.model.specs.declared.Place.{Place}
 use Rattle.model.specs.declared.Way.{Way}
 use Rattle.model.specs.declared.Way.TheVariants.{Refuse, Already, Restore, Map, Copy, Fill}
-use Rattle.model.specs.declared.Done.TheVariants.{No}
 use Rattle.model.specs.Machine.{Machine, State}
 use Rattle.model.specs.Answers.{first_of}
 use Rattle.model.specs.Create.{create_refusals}
@@ -40,19 +40,16 @@ at_least n (t ∷ l) (suc i) e h =
     let b = at_least (number_of t.1) l i (both_true (leb n (number_of t.1)) _ e).1 (le_of_suc-le-suc h) in
     omega arith
 
-same_number : {r q : Refusal} → No r ≡ No q → number_of r ≡ number_of q
-same_number {r} {q} e = ap number_of (let x : r ≡ q = cc in x)
-
 -- a refusal's number is at most that of every test that is true
-pub first_lowest : (n : ℕ) (l : List Test) (r : Refusal) → rising_from n l ≡ true → first_of l ≡ No r → (i : ℕ) → i < length l → (get_or l i (true, BadTable)).0 ≡ true → number_of r ≤ number_of (get_or l i (true, BadTable)).1
+pub first_lowest : (n : ℕ) (l : List Test) (r : Refusal) → rising_from n l ≡ true → first_of l ≡ Err r → (i : ℕ) → i < length l → (get_or l i (true, BadTable)).0 ≡ true → number_of r ≤ number_of (get_or l i (true, BadTable)).1
 unfolding first_of
 first_lowest n [] r e f i h t = absurd (not-suc-le-zero h)
 first_lowest n (x ∷ l) r e f i h t = go x.0 refl i f h t (first_lowest (number_of x.1) l r (both_true (leb n (number_of x.1)) _ e).1)
   where
-    go : (b : Bool) → x.0 ≡ b → (i : ℕ) → cond b (No x.1) (first_of l) ≡ No r → i < length (x ∷ l) → (get_or (x ∷ l) i (true, BadTable)).0 ≡ true → (first_of l ≡ No r → (j : ℕ) → j < length l → (get_or l j (true, BadTable)).0 ≡ true → number_of r ≤ number_of (get_or l j (true, BadTable)).1) → number_of r ≤ number_of (get_or (x ∷ l) i (true, BadTable)).1
-    go true p zero q k u ih = let y = same_number q in omega arith
+    go : (b : Bool) → x.0 ≡ b → (i : ℕ) → cond b (Err x.1) (first_of l) ≡ Err r → i < length (x ∷ l) → (get_or (x ∷ l) i (true, BadTable)).0 ≡ true → (first_of l ≡ Err r → (j : ℕ) → j < length l → (get_or l j (true, BadTable)).0 ≡ true → number_of r ≤ number_of (get_or l j (true, BadTable)).1) → number_of r ≤ number_of (get_or (x ∷ l) i (true, BadTable)).1
+    go true p zero q k u ih = let y = ap number_of (err_same q) in omega arith
     go true p (suc j) q k u ih =
-        let y = same_number q in
+        let y = ap number_of (err_same q) in
         let z = at_least (number_of x.1) l j (both_true (leb n (number_of x.1)) _ e).1 (le_of_suc-le-suc k) in
         omega arith
     go false p zero q k u ih = absurd (false≢true (sym p ∙ u))

@@ -1,13 +1,12 @@
 -- Which refusals each call gives before its core, in the order of their numbers: of several the lowest (RULES O4).
 -- BadTable stands before all of them (Calls: guarded); what faults, carves and clones refuse further is in Fault, Carve and Clone.
-use Rattle.std.specs.Prelude.{Bool, ◌&&◌, ◌||◌, not, List, [], ◌∷◌, ℕ, ◌+◌, ◌/◌, ◌%◌, length, eqb, ltb, leb}
+use Rattle.std.specs.Prelude.{Bool, ◌&&◌, ◌||◌, not, List, [], ◌∷◌, ℕ, ◌+◌, ◌/◌, ◌%◌, length, eqb, ltb, leb, Option}
 use Rattle.address.specs.Canonical.{user}
 use Rattle.address.specs.Flags.{good_flags}
 use Rattle.address.specs.Pages.{aligned}
 use Rattle.answers.specs.declared.Refusal.{Refusal}
 use Rattle.answers.specs.declared.Refusal.TheVariants.{BadTable, NoProcess, BadAddress, BadRange, BadFlags, NoRegion, UnsupportedRegion, InUse, TableFull, Denied}
 use Rattle.model.specs.declared.File.{File}
-use Rattle.model.specs.declared.Found.{Found}
 use Rattle.laws.specs.Lists.{all}
 use Rattle.model.specs.Machine.{Machine, State, region_at, user_end, most_pins, file_rows, frame_rows}
 use Rattle.model.specs.Lookup.{is_open, is_shared, is_pinned, is_found, row_found, first_row, region_for, any_region_for}
@@ -43,7 +42,7 @@ start_refusals s files = (bad_lengths s files, BadTable) ∷ []
 
 -- ---- processes
 
-abbrev pub closed_row : Machine → Found
+abbrev pub closed_row : Machine → Option ℕ
 closed_row m = first_row (λ q. eqb q.opened 0) m.processes 0
 
 unfoldable pub open_refusals : State → ℕ → ℕ → List (Bool × Refusal)

@@ -1,5 +1,5 @@
 -- RULES R1 to R6, a sound machine, as propositions: one field a rule. The test of them is in SoundTest, and SoundLaws proves that it tells them.
-use Rattle.std.specs.Prelude.{◌≡◌, ◌⊎◌, ◌≢◌, true, ◌&&◌, not, List, [], ◌∷◌, ◌++◌, map, ℕ, ◌+◌, ◌-◌, ◌*◌, ◌/◌, ◌^◌, ◌≤◌, ◌<◌, length, get_or, take, drop, eqb}
+use Rattle.std.specs.Prelude.{◌≡◌, ◌⊎◌, ◌≢◌, true, ◌&&◌, not, List, [], ◌∷◌, ◌++◌, map, ℕ, ◌+◌, ◌-◌, ◌*◌, ◌/◌, ◌^◌, ◌≤◌, ◌<◌, length, get_or, take, drop, eqb, Option, Some, None}
 use Rattle.address.specs.Flags.{good_flags, read_only}
 use Rattle.address.specs.Pages.{aligned}
 use Rattle.model.specs.declared.Process.{Process}
@@ -7,8 +7,6 @@ use Rattle.model.specs.declared.Region.{Region}
 use Rattle.model.specs.declared.Mapping.{Mapping}
 use Rattle.model.specs.declared.Entry.{Entry}
 use Rattle.model.specs.declared.File.{File}
-use Rattle.model.specs.declared.Found.{Found}
-use Rattle.model.specs.declared.Found.TheVariants.{At, Nothing}
 use Rattle.model.specs.declared.Backed.{Backed}
 use Rattle.model.specs.declared.Backed.TheVariants.{ByEntry, ByRange, Unbacked}
 use Rattle.laws.specs.Lists.{part, keep, among, first, count}
@@ -83,24 +81,24 @@ unfoldable pub homes : Machine → ℕ → ℕ → List ℕ
 homes m p a = keep (λ s. contains (region_at m p s) a) (order_of m p)
 
 -- the one element of a list that has exactly one
-abbrev pub only : List ℕ → Found
-only [] = Nothing
-only (s ∷ []) = At s
-only (s ∷ t ∷ l) = Nothing
+abbrev pub only : List ℕ → Option ℕ
+only [] = None
+only (s ∷ []) = Some s
+only (s ∷ t ∷ l) = None
 
-abbrev pub frame_by : Backed → Found
-frame_by (ByEntry i f n) = At f.0
-frame_by (ByRange f n) = At f.0
-frame_by Unbacked = Nothing
+abbrev pub frame_by : Backed → Option ℕ
+frame_by (ByEntry i f n) = Some f.0
+frame_by (ByRange f n) = Some f.0
+frame_by Unbacked = None
 
 -- the slot of the one attached region in which a mapped page starts
-abbrev pub home_of : Machine → ℕ → Mapping → Found
+abbrev pub home_of : Machine → ℕ → Mapping → Option ℕ
 home_of m p x = only (homes m p (page_start x.page.0))
 
 pub record Homed (m : Machine) (p : ℕ) (x : Mapping) : Type 0 where
   pub slot : ℕ
-  pub home : home_of m p x ≡ At slot
-  pub frame : frame_by (backing m p slot x.page.0) ≡ At x.frame.0
+  pub home : home_of m p x ≡ Some slot
+  pub frame : frame_by (backing m p slot x.page.0) ≡ Some x.frame.0
 
 -- RULES R4: a mapped page starts inside exactly one attached region, and its frame is that region's backing of the page
 abbrev pub R4 : Machine → Type 0
@@ -116,7 +114,7 @@ pub record Flagged (r : Region) (flags holders : ℕ) : Type 0 where
 
 -- RULES R5: a private mapping has its region's flags, or those without WRITABLE; it is writable only with one holder; a shared mapping has all four
 abbrev pub R5 : Machine → Type 0
-R5 m = Rows no_process m.processes (λ p q. Rows no_mapping (mapped_of m p) (λ i x. (slot : ℕ) → home_of m p x ≡ At slot → Flagged (region_at m p slot) x.flags.0 (holders_by (backing m p slot x.page.0))))
+R5 m = Rows no_process m.processes (λ p q. Rows no_mapping (mapped_of m p) (λ i x. (slot : ℕ) → home_of m p x ≡ Some slot → Flagged (region_at m p slot) x.flags.0 (holders_by (backing m p slot x.page.0))))
 
 -- ---- R6
 

@@ -1,20 +1,18 @@
 -- The soundness test tells R1 to R6: field by field, by the laws of Tests.
-use Rattle.std.specs.Prelude.{◌≡◌, refl, ◌≢◌, List, ℕ, ◌+◌, ◌≤◌, ◌<◌, eqb, leb}
+use Rattle.std.specs.Prelude.{◌≡◌, refl, ◌≢◌, List, ℕ, ◌+◌, ◌≤◌, ◌<◌, eqb, leb, Option, Some, None}
 use Rattle.std.proofs.Common.{ap, sym, subst, arith}
 use mathlib.Core.Bool.{Bool, true, false, ◌||◌}
+use Rattle.laws.specs.ResultLaws.{some_same}
 use Rattle.laws.specs.Tells.{Tells}
 use Rattle.laws.specs.TellsLaws.{tells_of, tells_both}
 use Rattle.model.specs.declared.Process.{Process}
 use Rattle.model.specs.declared.Region.{Region}
 use Rattle.model.specs.declared.Mapping.{Mapping}
 use Rattle.model.specs.declared.Backing.{Backing}
-use Rattle.model.specs.declared.Found.{Found}
-use Rattle.model.specs.declared.Found.TheVariants.{At, Nothing}
 use Rattle.laws.specs.Tests.{Rows, all_rows}
 use Rattle.laws.specs.TestLaws.{tells_eq, tells_le, tells_lt, tells_bool, tells_not, tells_or, tells_if, tells_unless, tells_as, tells_rows, tells_pairs}
 use Rattle.model.specs.Machine.{Machine, region_at, mapped_of, no_process, no_region, no_mapping, no_backing}
 use Rattle.model.specs.Lookup.{regions_of, is_used}
-use Rattle.model.specs.LookupLaws.{same_slot}
 use Rattle.model.specs.Paging.{is_writable}
 use Rattle.model.specs.Backing.{backing}
 use Rattle.model.specs.Protect.{holders_by}
@@ -71,27 +69,27 @@ r3_tells m = backings_tell m _ _ (λ f b. tells_unless (tells_eq b.len 0) (count
 
 -- ---- R4 and R5
 
-same_found_tells : (a b : Found) → Tells (same_found a b) (a ≡ b)
-same_found_tells Nothing Nothing = tells_of true (λ e. refl) (λ e. refl)
-same_found_tells Nothing (At j) = record { yes = λ e. absurd (mathlib.Core.Bool.false≢true e); no = λ e p. let z : ◌≡◌ {A = ℕ} 0 1 = cc in omega arith }
-same_found_tells (At i) Nothing = record { yes = λ e. absurd (mathlib.Core.Bool.false≢true e); no = λ e p. let z : ◌≡◌ {A = ℕ} 0 1 = cc in omega arith }
-same_found_tells (At i) (At j) = tells_as (λ e. ap At e) same_slot (tells_eq i j)
+same_found_tells : (a b : Option ℕ) → Tells (same_found a b) (a ≡ b)
+same_found_tells None None = tells_of true (λ e. refl) (λ e. refl)
+same_found_tells None (Some j) = record { yes = λ e. absurd (mathlib.Core.Bool.false≢true e); no = λ e p. let z : ◌≡◌ {A = ℕ} 0 1 = cc in omega arith }
+same_found_tells (Some i) None = record { yes = λ e. absurd (mathlib.Core.Bool.false≢true e); no = λ e p. let z : ◌≡◌ {A = ℕ} 0 1 = cc in omega arith }
+same_found_tells (Some i) (Some j) = tells_as (λ e. ap Some e) some_same (tells_eq i j)
 
 -- something was found, and it has what its test tells
-tells_some : (g : ℕ → Bool) (P : ℕ → Type 0) → ((i : ℕ) → Tells (g i) (P i)) → (x : Found) → Tells (when_found false g x) ((i : ℕ) × ((x ≡ At i) × P i))
-tells_some g P t Nothing = record { yes = λ e. absurd (mathlib.Core.Bool.false≢true e); no = λ e p. let h : Nothing ≡ At p.0 = p.1.0 in let z : ◌≡◌ {A = ℕ} 0 1 = cc in omega arith }
-tells_some g P t (At i) = tells_as (λ p. (i, (refl, p))) (λ q. subst P (sym (same_slot q.1.0)) q.1.1) (t i)
+tells_some : (g : ℕ → Bool) (P : ℕ → Type 0) → ((i : ℕ) → Tells (g i) (P i)) → (x : Option ℕ) → Tells (when_found false g x) ((i : ℕ) × ((x ≡ Some i) × P i))
+tells_some g P t None = record { yes = λ e. absurd (mathlib.Core.Bool.false≢true e); no = λ e p. let h : None ≡ Some p.0 = p.1.0 in let z : ◌≡◌ {A = ℕ} 0 1 = cc in omega arith }
+tells_some g P t (Some i) = tells_as (λ p. (i, (refl, p))) (λ q. subst P (sym (some_same q.1.0)) q.1.1) (t i)
 
 -- whatever was found has what its test tells
-tells_every : (g : ℕ → Bool) (P : ℕ → Type 0) → ((i : ℕ) → Tells (g i) (P i)) → (x : Found) → Tells (when_found true g x) ((i : ℕ) → x ≡ At i → P i)
-tells_every g P t Nothing = tells_of true (λ e i h. let z : ◌≡◌ {A = ℕ} 0 1 = cc in absurd (omega arith)) (λ p. refl)
-tells_every g P t (At i) = tells_as (λ p j e. subst P (same_slot e) p) (λ f. f i refl) (t i)
+tells_every : (g : ℕ → Bool) (P : ℕ → Type 0) → ((i : ℕ) → Tells (g i) (P i)) → (x : Option ℕ) → Tells (when_found true g x) ((i : ℕ) → x ≡ Some i → P i)
+tells_every g P t None = tells_of true (λ e i h. let z : ◌≡◌ {A = ℕ} 0 1 = cc in absurd (omega arith)) (λ p. refl)
+tells_every g P t (Some i) = tells_as (λ p j e. subst P (some_same e) p) (λ f. f i refl) (t i)
 
 homed_tells : (m : Machine) (p : ℕ) (x : Mapping) → Tells (homedb m p x) (Homed m p x)
 unfolding homedb
 homed_tells m p x =
     tells_as (λ h. record { slot = h.0; home = h.1.0; frame = h.1.1 }) (λ h. (h.slot, (h.home, h.frame)))
-    (tells_some _ (λ s. frame_by (backing m p s x.page.0) ≡ At x.frame.0) (λ s. same_found_tells _ _) (home_of m p x))
+    (tells_some _ (λ s. frame_by (backing m p s x.page.0) ≡ Some x.frame.0) (λ s. same_found_tells _ _) (home_of m p x))
 
 mappings_tell : (l : List Mapping) (f : Mapping → Bool) (P : Mapping → Type 0) → ((x : Mapping) → Tells (f x) (P x)) → Tells (all_rows (λ i x. f x) 0 l) (Rows no_mapping l (λ i x. P x))
 mappings_tell l f P t = tells_rows no_mapping (λ i x. f x) (λ i x. P x) (λ i x. t x) l
@@ -107,7 +105,7 @@ flagged_tells r flags n =
     (tells_both (tells_unless (tells_eq _ _) (tells_or (tells_eq _ _) (tells_eq _ _)))
     (tells_both (tells_unless (tells_eq _ _) (tells_if (tells_bool (is_writable flags)) (tells_eq _ _))) (tells_if (tells_eq _ _) (tells_eq _ _))))
 
-flags_fit_tells : (m : Machine) (p : ℕ) (x : Mapping) → Tells (flags_fit m p x) ((slot : ℕ) → home_of m p x ≡ At slot → Flagged (region_at m p slot) x.flags.0 (holders_by (backing m p slot x.page.0)))
+flags_fit_tells : (m : Machine) (p : ℕ) (x : Mapping) → Tells (flags_fit m p x) ((slot : ℕ) → home_of m p x ≡ Some slot → Flagged (region_at m p slot) x.flags.0 (holders_by (backing m p slot x.page.0)))
 unfolding flags_fit
 flags_fit_tells m p x = tells_every _ (λ s. Flagged (region_at m p s) x.flags.0 (holders_by (backing m p s x.page.0))) (λ s. flagged_tells _ _ _) (home_of m p x)
 

@@ -1,5 +1,5 @@
 -- The soundness test: R1 to R6 as a test that computes, field by field as in Sound.
-use Rattle.std.specs.Prelude.{Bool, true, false, ◌&&◌, ◌||◌, not, List, ℕ, ◌+◌, ◌-◌, ◌*◌, ◌^◌, length, get_or, drop, eqb, ltb, leb}
+use Rattle.std.specs.Prelude.{Bool, true, false, ◌&&◌, ◌||◌, not, List, ℕ, ◌+◌, ◌-◌, ◌*◌, ◌^◌, length, get_or, drop, eqb, ltb, leb, Option, Some, None}
 use Rattle.address.specs.Flags.{good_flags, read_only}
 use Rattle.address.specs.Pages.{aligned}
 use Rattle.model.specs.declared.Process.{Process}
@@ -8,8 +8,6 @@ use Rattle.model.specs.declared.Mapping.{Mapping}
 use Rattle.model.specs.declared.Entry.{Entry}
 use Rattle.model.specs.declared.Backing.{Backing}
 use Rattle.model.specs.declared.File.{File}
-use Rattle.model.specs.declared.Found.{Found}
-use Rattle.model.specs.declared.Found.TheVariants.{At, Nothing}
 use Rattle.laws.specs.Lists.{part, among, first}
 use Rattle.laws.specs.Tests.{all_rows, all_pairs}
 use Rattle.model.specs.Machine.{Machine, State, region_at, order_of, mapped_of, no_region, user_end, most_pins, process_rows, entry_rows, file_rows, frame_rows}
@@ -47,19 +45,19 @@ counted m f b = eqb b.holders (holders_of m f) && leb 1 b.holders
 unfoldable pub r3b : Machine → Bool
 r3b m = all_rows (λ f b. eqb b.len 0 || counted m f b) 0 m.backings
 
-abbrev pub same_found : Found → Found → Bool
-same_found Nothing Nothing = true
-same_found Nothing (At j) = false
-same_found (At i) Nothing = false
-same_found (At i) (At j) = eqb i j
+abbrev pub same_found : Option ℕ → Option ℕ → Bool
+same_found None None = true
+same_found None (Some j) = false
+same_found (Some i) None = false
+same_found (Some i) (Some j) = eqb i j
 
 -- a test of what was found
-abbrev pub when_found : Bool → (ℕ → Bool) → Found → Bool
-when_found b f Nothing = b
-when_found b f (At i) = f i
+abbrev pub when_found : Bool → (ℕ → Bool) → Option ℕ → Bool
+when_found b f None = b
+when_found b f (Some i) = f i
 
 unfoldable pub homedb : Machine → ℕ → Mapping → Bool
-homedb m p x = when_found false (λ s. same_found (frame_by (backing m p s x.page.0)) (At x.frame.0)) (home_of m p x)
+homedb m p x = when_found false (λ s. same_found (frame_by (backing m p s x.page.0)) (Some x.frame.0)) (home_of m p x)
 
 unfoldable pub r4b : Machine → Bool
 r4b m = each_process m (λ p q. all_rows (λ i x. homedb m p x) 0 (mapped_of m p))

@@ -152,20 +152,6 @@ impl Population {
     }
 }
 
-// A row or slot that was looked for.
-#[derive(Clone, Copy)]
-pub enum Found {
-    At(usize),
-    Nothing,
-}
-
-// What a page is mapped to: the Rust's TranslateResult.
-#[derive(Clone, Copy)]
-pub enum Translated {
-    Mapped(Mapping),
-    NotMapped,
-}
-
 // What backs a page of a region, with the number of its holders: a page entry (its row) or the range.
 #[derive(Clone, Copy)]
 pub enum Backed {
@@ -197,47 +183,11 @@ pub enum Way {
     Fill,
 }
 
-// The answer of a call that gives no value.
-#[derive(Clone, Copy)]
-pub enum Done {
-    Yes,
-    No(Refusal),
-}
-
-// The answer of open: the process's number.
-#[derive(Clone, Copy)]
-pub enum Opened {
-    Process(u64),
-    No(Refusal),
-}
-
-// The answer of creation and of the look-up at an address: the region's start.
-#[derive(Clone, Copy)]
-pub enum Placed {
-    At(VirtAddr),
-    No(Refusal),
-}
-
-// The answer of covers.
-#[derive(Clone, Copy)]
-pub enum Covering {
-    Covered,
-    Uncovered,
-    No(Refusal),
-}
-
-// The answer of load.
-#[derive(Clone, Copy)]
-pub enum Loaded {
-    Byte(u8),
-    No(Refusal),
-}
-
 // The answer of carve and of the list of regions, as the definitions have it: the first `count` of `starts` are the regions' starts,
 // the rest 0. Code answers `Counted` and puts the starts into lent memory.
 #[derive(Clone, Copy)]
 pub struct Listed {
-    pub done: Done,
+    pub done: Result<(), Refusal>,
     pub count: u64,
     pub starts: [u64; 64],
 }
@@ -353,17 +303,17 @@ pub enum Call {
 // alone where the call is refused.
 #[derive(Clone, Copy)]
 pub struct Counted {
-    pub done: Done,
+    pub done: Result<(), Refusal>,
     pub count: u64,
 }
 
 // The answer of any call.
 #[derive(Clone, Copy)]
 pub enum Answer {
-    Done(Done),
-    Opened(Opened),
-    Placed(Placed),
-    Covering(Covering),
-    Loaded(Loaded),
+    Done(Result<(), Refusal>),
+    Opened(Result<u64, Refusal>),
+    Placed(Result<VirtAddr, Refusal>),
+    Covering(Result<bool, Refusal>),
+    Loaded(Result<u8, Refusal>),
     Counted(Counted),
 }

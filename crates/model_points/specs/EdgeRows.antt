@@ -1,12 +1,11 @@
 -- Points of our own beside the edges that P1 to P12 leave without one, in the same form.
-use Rattle.std.specs.Prelude.{true, false, List, [], ◌∷◌, map, ℕ, ◌+◌, ◌*◌, ◌^◌}
+use Rattle.std.specs.Prelude.{true, false, List, [], ◌∷◌, map, ℕ, ◌+◌, ◌*◌, ◌^◌, None}
 use Rattle.answers.specs.declared.Refusal.TheVariants.{BadTable, BadRange, BadFlags, NoFile, NoRegion, NoSpace, SegmentReserved, NotAccessible, NotWritable, OutOfMemory, ReadFailed, UnsupportedRegion, EagerBacking, InUse, TableFull, Denied}
 use Rattle.model.specs.declared.Region.{Region}
 use Rattle.model.specs.declared.File.{File}
 use Rattle.model.specs.declared.Place.{Place}
 use Rattle.laws.specs.Lists.{up_from, pad, put_part}
 use Rattle.model.specs.Machine.{State, empty_machine, with_machine, with_regions, with_order, no_region}
-use Rattle.model.specs.declared.Found.TheVariants.{Nothing}
 use Rattle.model.specs.Create.{placed_at, wanted_private}
 use Rattle.model.specs.Run.{Call}
 use Rattle.model.specs.PointTable.{does, sees, Look, ok, says, lists, lists_not, Row}
@@ -43,7 +42,7 @@ unreadable = record {
 
 -- a private lazy region of one page, the i-th of a crowd
 abbrev pub crowd_row : ℕ → Region
-crowd_row i = placed_at (wanted_private 0x1000 rw false false) (0x100000 + i * 0x1000) Nothing
+crowd_row i = placed_at (wanted_private 0x1000 rw false false) (0x100000 + i * 0x1000) None
 
 -- the same, with n regions of one process at 0x100000, 0x101000, .., in its first slots
 unfoldable pub crowded : ℕ → ℕ → ℕ → State

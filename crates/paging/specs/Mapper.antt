@@ -1,9 +1,7 @@
 -- What map, unmap, remap and unmap_from leave of a machine, whatever its rows are. MapperLaws: what that is where a page table is well formed.
-use Rattle.std.specs.Prelude.{cond, ℕ, ◌+◌, ◌-◌, length, get_or, set, ltb}
+use Rattle.std.specs.Prelude.{cond, ℕ, ◌+◌, ◌-◌, length, get_or, set, ltb, Option, Some, None}
 use Rattle.model.specs.declared.Mapping.{Mapping}
 use Rattle.model.specs.declared.Region.{Region}
-use Rattle.model.specs.declared.Found.{Found}
-use Rattle.model.specs.declared.Found.TheVariants.{At, Nothing}
 use Rattle.model.specs.Machine.{Machine, mapped_of, no_mapping}
 use Rattle.model.specs.Lookup.{span_end, pages_for}
 use Rattle.model.specs.Paging.{mapping}
@@ -25,9 +23,9 @@ taken_out m p from to n = with_count (with_rows m p (rows_taken (rows_of m p) fr
 unfoldable pub map_by : Machine → ℕ → Mapping → Machine
 map_by m p x = cond (ltb (mapped_pages m p) 128) (inserted m p (place (mapped_of m p) x.page.0) (mapped_pages m p) x) m
 
-abbrev pub unmap_row : Machine → ℕ → Found → Machine
-unmap_row m p (At i) = taken_out m p i (i + 1) (mapped_pages m p)
-unmap_row m p Nothing = m
+abbrev pub unmap_row : Machine → ℕ → Option ℕ → Machine
+unmap_row m p (Some i) = taken_out m p i (i + 1) (mapped_pages m p)
+unmap_row m p None = m
 
 unfoldable pub unmap_by : Machine → ℕ → ℕ → Machine
 unmap_by m p page = unmap_row m p (row_for (mapped_of m p) page)
@@ -36,9 +34,9 @@ unmap_by m p page = unmap_row m p (row_for (mapped_of m p) page)
 abbrev pub reflag : Mapping → ℕ → Mapping
 reflag x flags = mapping x.page.0 x.frame.0 flags
 
-abbrev pub remap_row : Machine → ℕ → ℕ → Found → Machine
-remap_row m p flags (At i) = with_rows m p (set (rows_of m p) i (reflag (get_or (rows_of m p) i no_mapping) flags))
-remap_row m p flags Nothing = m
+abbrev pub remap_row : Machine → ℕ → ℕ → Option ℕ → Machine
+remap_row m p flags (Some i) = with_rows m p (set (rows_of m p) i (reflag (get_or (rows_of m p) i no_mapping) flags))
+remap_row m p flags None = m
 
 unfoldable pub remap_by : Machine → ℕ → ℕ → ℕ → Machine
 remap_by m p page flags = remap_row m p flags (row_for (mapped_of m p) page)

@@ -1,5 +1,5 @@
 -- Where a process's page table is well formed, map, unmap, remap and unmap_from leave what the model says: the laws that callers use.
-use Rattle.std.specs.Prelude.{◌≡◌, Bool, List, ◌∷◌, ◌++◌, get_or, take}
+use Rattle.std.specs.Prelude.{◌≡◌, Bool, List, ◌∷◌, ◌++◌, get_or, take, Option, Some, None}
 use Rattle.std.proofs.Math.Path.{refl, ap, sym}
 use Rattle.std.proofs.Common.{◌∙◌, length-append, length-drop, length-set, take-append-drop, length-take-le}
 use Rattle.std.proofs.Math.Bool.{true, false, cond}
@@ -11,9 +11,6 @@ use Rattle.std.proofs.Math.Dec.{ltb}
 use borrow.Author.Tests.{lt-ltb, ltb-false}
 use Rattle.model.specs.declared.Region.{Region}
 use Rattle.model.specs.declared.Mapping.{Mapping}
-use Rattle.model.specs.declared.Found.{Found}
-use Rattle.model.specs.declared.Found.TheVariants.{At, Nothing}
-use Rattle.model.specs.declared.Translated.TheVariants.{NotMapped}
 use Rattle.laws.specs.Lists.{part, pad}
 use Rattle.model.specs.Machine.{Machine, State, process_at, mapped_of, with_mapped, mapped_count, no_process, no_mapping}
 use Rattle.model.specs.Sound.{Sound}
@@ -87,7 +84,7 @@ module _ (m : Machine) (p : ℕ) (w : WellPaged m p) where
   pub translate_law : (page : ℕ) → translate_by (mapped_of m p) page ≡ translate (mapped_of m p) page
   translate_law page = translate_by_is (mapped_of m p) page rising
 
-  pub map_law : (x : Mapping) → translate (mapped_of m p) x.page.0 ≡ NotMapped → length (mapped_of m p) < 128 → map_by m p x ≡ with_mapped m p (map_page (mapped_of m p) x)
+  pub map_law : (x : Mapping) → translate (mapped_of m p) x.page.0 ≡ None → length (mapped_of m p) < 128 → map_by m p x ≡ with_mapped m p (map_page (mapped_of m p) x)
   unfolding map_by
   map_law x e h =
       let l = mapped_of m p in
@@ -100,7 +97,7 @@ module _ (m : Machine) (p : ℕ) (w : WellPaged m p) where
       ∙ ap (λ t. with_mapped m p t) (sym (map_below l x rising e)))
 
   -- a page that has no row is not mapped
-  no_row : (page : ℕ) → Nothing ≡ row_for (mapped_of m p) page → translate (mapped_of m p) page ≡ NotMapped
+  no_row : (page : ℕ) → None ≡ row_for (mapped_of m p) page → translate (mapped_of m p) page ≡ None
   unfolding translate_by
   no_row page e = sym (translate_law page) ∙ ap (λ f. mapped_at (mapped_of m p) f) (sym e)
 
@@ -108,19 +105,19 @@ module _ (m : Machine) (p : ℕ) (w : WellPaged m p) where
   unfolding unmap_by
   unmap_law page = go (row_for (mapped_of m p) page) refl
     where
-      go : (f : Found) → f ≡ row_for (mapped_of m p) page → unmap_row m p f ≡ with_mapped m p (unmap_page (mapped_of m p) page)
-      go (At i) e =
+      go : (f : Option ℕ) → f ≡ row_for (mapped_of m p) page → unmap_row m p f ≡ with_mapped m p (unmap_page (mapped_of m p) page)
+      go (Some i) e =
           let stands = stands_mapped (mapped_of m p) page i rising e in
           let inside = row_inside (mapped_of m p) page i e in
           taken i (i + 1) (omega arith) (omega arith) ∙ ap (λ t. with_mapped m p t) (sym (unmap_at page (mapped_of m p) rising i inside stands.0 stands.1))
-      go Nothing e = sym (ap (λ t. with_mapped m p t) (unmap_missing page (mapped_of m p) (no_row page e)) ∙ same_put)
+      go None e = sym (ap (λ t. with_mapped m p t) (unmap_missing page (mapped_of m p) (no_row page e)) ∙ same_put)
 
   pub remap_law : (page flags : ℕ) → remap_by m p page flags ≡ with_mapped m p (remap_page (mapped_of m p) page flags)
   unfolding remap_by
   remap_law page flags = go (row_for (mapped_of m p) page) refl
     where
-      go : (f : Found) → f ≡ row_for (mapped_of m p) page → remap_row m p flags f ≡ with_mapped m p (remap_page (mapped_of m p) page flags)
-      go (At i) e =
+      go : (f : Option ℕ) → f ≡ row_for (mapped_of m p) page → remap_row m p flags f ≡ with_mapped m p (remap_page (mapped_of m p) page flags)
+      go (Some i) e =
           let l = mapped_of m p in
           let stands = stands_mapped l page i rising e in
           let inside = row_inside l page i e in
@@ -128,7 +125,7 @@ module _ (m : Machine) (p : ℕ) (w : WellPaged m p) where
           ap (λ x. with_rows m p (set (rows_of m p) i (reflag x flags))) (mapped_row m p i inside)
           ∙ rows_put (set (rows_of m p) i other) (set l i other) (ap (λ t. set t i other) padded ∙ set_in_pad l 128 i other inside few) (length-set l i other)
           ∙ ap (λ t. with_mapped m p t) (sym (remap_at page flags l rising i inside stands.1))
-      go Nothing e = sym (ap (λ t. with_mapped m p t) (remap_missing page flags (mapped_of m p) (no_row page e)) ∙ same_put)
+      go None e = sym (ap (λ t. with_mapped m p t) (remap_missing page flags (mapped_of m p) (no_row page e)) ∙ same_put)
 
   pub unmap_from_law : (r : Region) → unmap_from_by m p r ≡ unmap_from m p r
   unfolding unmap_from_by unmap_from

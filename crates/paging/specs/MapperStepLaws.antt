@@ -1,5 +1,5 @@
 -- The ways through map, unmap, remap and unmap_from: what each leaves is what Mapper says.
-use Rattle.std.specs.Prelude.{◌≡◌, true, false, List, ◌++◌, ℕ, suc, ◌+◌, ◌-◌, ◌≤◌, ◌<◌, length, get_or, ltb}
+use Rattle.std.specs.Prelude.{◌≡◌, true, false, List, ◌++◌, ℕ, suc, ◌+◌, ◌-◌, ◌≤◌, ◌<◌, length, get_or, ltb, Some, None}
 use Rattle.std.proofs.Math.Path.{refl, ap}
 use Rattle.std.proofs.Common.{sym, ◌∙◌, length-set}
 use native.Mathlib.Omega.{arith}
@@ -8,7 +8,6 @@ use Rattle.std.proofs.Math.Seq.{slice, length-slice}
 use borrow.Author.Tests.{lt-ltb, le-ltb}
 use Rattle.model.specs.declared.Mapping.{Mapping}
 use Rattle.model.specs.declared.Region.{Region}
-use Rattle.model.specs.declared.Found.TheVariants.{At, Nothing}
 use Rattle.model.specs.Layout.{word_count, machine}
 use Rattle.model.specs.Machine.{Machine, mapped_of, no_mapping}
 use Rattle.model.specs.Lookup.{is_found, pages_for}
@@ -64,7 +63,7 @@ module _ (m : Machine) (p n : ℕ) (counted : n ≡ mapped_pages m p) where
   unfolding map_by
   map_full x h = let test = le-ltb (mapped_pages m p) 128 (omega arith) in (sym test, rw test refl)
 
-  pub unmap_found : (page at : ℕ) (new : Machine) → At at ≡ row_for (mapped_of m p) page → new ≡ taken_out m p at (at + 1) n → new ≡ unmap_by m p page
+  pub unmap_found : (page at : ℕ) (new : Machine) → Some at ≡ row_for (mapped_of m p) page → new ≡ taken_out m p at (at + 1) n → new ≡ unmap_by m p page
   unfolding unmap_by
   unmap_found page at new e f = f ∙ ap (λ (i : ℕ). taken_out m p at (at + 1) i) counted ∙ rw (← e) refl
 
@@ -85,14 +84,14 @@ module _ (m : Machine) (p n : ℕ) (counted : n ≡ mapped_pages m p) where
     none_taken h = rw (← low_is, ← high_is, le-ltb from to h) refl
 
 module _ (m : Machine) (p page : ℕ) where
-  pub unmap_no_row : Nothing ≡ row_for (mapped_of m p) page → m ≡ unmap_by m p page
+  pub unmap_no_row : None ≡ row_for (mapped_of m p) page → m ≡ unmap_by m p page
   unfolding unmap_by
   unmap_no_row e = rw (← e) refl
 
-  pub remap_found : (flags at : ℕ) (row : Mapping) (new : Machine) → At at ≡ row_for (mapped_of m p) page → row ≡ get_or (rows_of m p) at no_mapping → new ≡ with_rows m p (set (rows_of m p) at (reflag row flags)) → (true ≡ is_found (row_for (mapped_of m p) page)) × (new ≡ remap_by m p page flags)
+  pub remap_found : (flags at : ℕ) (row : Mapping) (new : Machine) → Some at ≡ row_for (mapped_of m p) page → row ≡ get_or (rows_of m p) at no_mapping → new ≡ with_rows m p (set (rows_of m p) at (reflag row flags)) → (true ≡ is_found (row_for (mapped_of m p) page)) × (new ≡ remap_by m p page flags)
   unfolding remap_by
   remap_found flags at row new e read f = (ap is_found e, f ∙ ap (λ y. with_rows m p (set (rows_of m p) at (reflag y flags))) read ∙ rw (← e) refl)
 
-  pub remap_no_row : (flags : ℕ) → Nothing ≡ row_for (mapped_of m p) page → (false ≡ is_found (row_for (mapped_of m p) page)) × (m ≡ remap_by m p page flags)
+  pub remap_no_row : (flags : ℕ) → None ≡ row_for (mapped_of m p) page → (false ≡ is_found (row_for (mapped_of m p) page)) × (m ≡ remap_by m p page flags)
   unfolding remap_by
   remap_no_row flags e = (ap is_found e, rw (← e) refl)

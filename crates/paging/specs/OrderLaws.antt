@@ -1,14 +1,11 @@
 -- Laws of `Order`: where pages rise: the halving search counts the pages below, and each of the model's operations is a change at that place.
-use Rattle.std.specs.Prelude.{◌≡◌, refl, Bool, true, false, ◌&&◌, not, cond, List, [], ◌∷◌, ◌++◌, ℕ, zero, suc, ◌+◌, ◌≤◌, ◌<◌, length, get_or, take, drop, set, eqb, ltb, leb}
+use Rattle.std.specs.Prelude.{◌≡◌, refl, Bool, true, false, ◌&&◌, not, cond, List, [], ◌∷◌, ◌++◌, ℕ, zero, suc, ◌+◌, ◌≤◌, ◌<◌, length, get_or, take, drop, set, eqb, ltb, leb, Option, Some, None}
 use Rattle.std.proofs.Common.{ap, sym, ◌∙◌, zero-le, suc-le-suc, le_of_suc-le-suc, not-suc-le-zero, arith, add-one, ltb-true, ltb-false, lt-ltb, le-ltb, eq-eqb, ne_eqb, eqb-true, leb-true, leb-false}
 use Rattle.std.proofs.Math.Dec.{leb-suc-suc}
 use Rattle.std.proofs.lemmas.Bool.{eqb-false}
 use Rattle.laws.specs.TellsLaws.{tells_same, tells_both}
 use Rattle.model.specs.declared.Region.{Region}
 use Rattle.model.specs.declared.Mapping.{Mapping}
-use Rattle.model.specs.declared.Found.TheVariants.{At, Nothing}
-use Rattle.model.specs.declared.Translated.{Translated}
-use Rattle.model.specs.declared.Translated.TheVariants.{Mapped, NotMapped}
 use Rattle.laws.specs.Lists.{keep, count}
 use Rattle.model.specs.Machine.{no_mapping}
 use Rattle.laws.specs.TestLaws.{tells_eq, tells_le, tells_lt, tells_as}
@@ -104,16 +101,16 @@ place_below l page r = let most = below_most page l in halve_below l page r (len
 
 -- ---- translate
 
-translate_none : (page : ℕ) (l : List Mapping) → From (suc page) l → translate l page ≡ NotMapped
+translate_none : (page : ℕ) (l : List Mapping) → From (suc page) l → translate l page ≡ None
 unfolding translate
 translate_none page [] f = refl
 translate_none page (x ∷ l) f = let h = f zero (suc-le-suc zero-le) in rw (ne_eqb x.page.0 page (λ e. omega arith)) (translate_none page l (from_rest (suc page) x l f))
 
 -- the row at a place, if it is the page's
-abbrev row_if : List Mapping → ℕ → ℕ → Translated
-row_if l page i = cond (stands_at l i page) (Mapped (get_or l i no_mapping)) NotMapped
+abbrev row_if : List Mapping → ℕ → ℕ → Option Mapping
+row_if l page i = cond (stands_at l i page) (Some (get_or l i no_mapping)) None
 
-row_if_is : (l : List Mapping) (page i : ℕ) (b : Bool) → mapped_at l (cond b (At i) Nothing) ≡ cond b (Mapped (get_or l i no_mapping)) NotMapped
+row_if_is : (l : List Mapping) (page i : ℕ) (b : Bool) → mapped_at l (cond b (Some i) None) ≡ cond b (Some (get_or l i no_mapping)) None
 row_if_is l page i true = refl
 row_if_is l page i false = refl
 
@@ -122,7 +119,7 @@ unfolding translate count
 translate_below page [] r = refl
 translate_below page (x ∷ l) r = go (ltb x.page.0 page) refl (eqb x.page.0 page) refl (translate_below page l (rising_rest x l r))
   where
-    go : (b : Bool) → ltb x.page.0 page ≡ b → (d : Bool) → eqb x.page.0 page ≡ d → row_if l page (below page l) ≡ translate l page → row_if (x ∷ l) page (below page (x ∷ l)) ≡ cond d (Mapped x) (translate l page)
+    go : (b : Bool) → ltb x.page.0 page ≡ b → (d : Bool) → eqb x.page.0 page ≡ d → row_if l page (below page l) ≡ translate l page → row_if (x ∷ l) page (below page (x ∷ l)) ≡ cond d (Some x) (translate l page)
     go true e true f ih = let u = ltb-true x.page.0 page e in let v = eqb-true x.page.0 page f in absurd (omega arith)
     go true e false f ih = ap (λ (i : ℕ). row_if (x ∷ l) page i) (below_cons page x l (ltb-true x.page.0 page e)) ∙ rw (leb-suc-suc (suc (below page l)) (length l)) ih
     go false e true f ih = ap (λ (i : ℕ). row_if (x ∷ l) page i) (below_first page x l r (ltb-false x.page.0 page e)) ∙ rw (f, lt-ltb 0 (suc (length l)) (suc-le-suc zero-le))
@@ -136,11 +133,11 @@ unfolding translate_by row_for
 translate_by_is l page r = row_if_is l page (place l page) (stands_at l (place l page) page) ∙ ap (λ (i : ℕ). row_if l page i) (place_below l page r) ∙ translate_below page l r
 
 -- a page that is mapped stands at its place, and one that is not does not
-pub stands_mapped : (l : List Mapping) (page i : ℕ) → Rising l → At i ≡ row_for l page → (i ≡ below page l) × (page_at l i ≡ page)
+pub stands_mapped : (l : List Mapping) (page i : ℕ) → Rising l → Some i ≡ row_for l page → (i ≡ below page l) × (page_at l i ≡ page)
 unfolding row_for
 stands_mapped l page i r e = go (ltb (place l page) (length l)) (eqb (page_at l (place l page)) page) refl e
   where
-    go : (a b : Bool) → eqb (page_at l (place l page)) page ≡ b → At i ≡ cond (a && b) (At (place l page)) Nothing → (i ≡ below page l) × (page_at l i ≡ page)
+    go : (a b : Bool) → eqb (page_at l (place l page)) page ≡ b → Some i ≡ cond (a && b) (Some (place l page)) None → (i ≡ below page l) × (page_at l i ≡ page)
     go true true p f =
         let same : i ≡ place l page = cc in
         (same ∙ place_below l page r, ap (λ (j : ℕ). page_at l j) same ∙ eqb-true (page_at l (place l page)) page p)
@@ -149,11 +146,11 @@ stands_mapped l page i r e = go (ltb (place l page) (length l)) (eqb (page_at l 
 
 -- ---- map
 
-pub not_first : (page : ℕ) (x : Mapping) (l : List Mapping) → translate (x ∷ l) page ≡ NotMapped → (x.page.0 ≡ page → ⊥) × (translate l page ≡ NotMapped)
+pub not_first : (page : ℕ) (x : Mapping) (l : List Mapping) → translate (x ∷ l) page ≡ None → (x.page.0 ≡ page → ⊥) × (translate l page ≡ None)
 unfolding translate
 not_first page x l e = go (eqb x.page.0 page) refl e
   where
-    go : (b : Bool) → eqb x.page.0 page ≡ b → cond b (Mapped x) (translate l page) ≡ NotMapped → (x.page.0 ≡ page → ⊥) × (translate l page ≡ NotMapped)
+    go : (b : Bool) → eqb x.page.0 page ≡ b → cond b (Some x) (translate l page) ≡ None → (x.page.0 ≡ page → ⊥) × (translate l page ≡ None)
     go true p f = let z : ◌≡◌ {A = ℕ} 0 1 = cc in absurd (omega arith)
     go false p f = (eqb-false x.page.0 page p, f)
 
@@ -165,7 +162,7 @@ page_under x y u v = go (ltb y.page.0 x.page.0) refl
     go true q = ltb-true y.page.0 x.page.0 q
     go false q = let w = ltb-false y.page.0 x.page.0 q in absurd (v (omega arith))
 
-pub map_below : (l : List Mapping) (x : Mapping) → Rising l → translate l x.page.0 ≡ NotMapped → map_page l x ≡ take (below x.page.0 l) l ++ (x ∷ drop (below x.page.0 l) l)
+pub map_below : (l : List Mapping) (x : Mapping) → Rising l → translate l x.page.0 ≡ None → map_page l x ≡ take (below x.page.0 l) l ++ (x ∷ drop (below x.page.0 l) l)
 unfolding map_page count
 map_below [] x r e = refl
 map_below (y ∷ l) x r e = go (ltb x.page.0 y.page.0) refl (map_below l x (rising_rest y l r) (not_first x.page.0 y l e).1)
@@ -220,7 +217,7 @@ remap_at page flags (x ∷ l) r (suc i) h e =
     rw (ne_eqb x.page.0 page (λ p. omega arith)) (ap (λ t. x ∷ t) (remap_at page flags l (rising_rest x l r) i (le_of_suc-le-suc h) e))
 
 -- where it is not mapped there is nothing to replace
-pub remap_missing : (page flags : ℕ) (l : List Mapping) → translate l page ≡ NotMapped → remap_page l page flags ≡ l
+pub remap_missing : (page flags : ℕ) (l : List Mapping) → translate l page ≡ None → remap_page l page flags ≡ l
 unfolding remap_where
 remap_missing page flags [] e = refl
 remap_missing page flags (x ∷ l) e = let n = not_first page x l e in rw (ne_eqb x.page.0 page n.0) (ap (λ t. x ∷ t) (remap_missing page flags l n.1))
@@ -262,7 +259,7 @@ unmap_at page l r i h b e =
     ∙ ap (λ (j : ℕ). take j l ++ drop (below (suc page) l) l) (sym b)
     ∙ ap (λ (j : ℕ). take i l ++ drop j l) (below_after page l r i h e)
 
-pub unmap_missing : (page : ℕ) (l : List Mapping) → translate l page ≡ NotMapped → unmap_page l page ≡ l
+pub unmap_missing : (page : ℕ) (l : List Mapping) → translate l page ≡ None → unmap_page l page ≡ l
 unfolding unmap_page keep
 unmap_missing page [] e = refl
 unmap_missing page (x ∷ l) e = let n = not_first page x l e in rw (ne_eqb x.page.0 page n.0) (ap (λ t. x ∷ t) (unmap_missing page l n.1))

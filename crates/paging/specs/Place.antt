@@ -1,10 +1,6 @@
 -- Where a page stands or belongs among a process's mapped pages: the halving search, and the row that it finds.
-use Rattle.std.specs.Prelude.{Bool, ◌&&◌, cond, List, ℕ, zero, suc, ◌+◌, ◌/◌, length, get_or, eqb, ltb}
+use Rattle.std.specs.Prelude.{Bool, ◌&&◌, cond, List, ℕ, zero, suc, ◌+◌, ◌/◌, length, get_or, eqb, ltb, Option, Some, None}
 use Rattle.model.specs.declared.Mapping.{Mapping}
-use Rattle.model.specs.declared.Found.{Found}
-use Rattle.model.specs.declared.Found.TheVariants.{At, Nothing}
-use Rattle.model.specs.declared.Translated.{Translated}
-use Rattle.model.specs.declared.Translated.TheVariants.{Mapped, NotMapped}
 use Rattle.model.specs.Machine.{no_mapping}
 
 abbrev pub page_at : List Mapping → ℕ → ℕ
@@ -29,13 +25,13 @@ abbrev pub stands_at : List Mapping → ℕ → ℕ → Bool
 stands_at l i page = ltb i (length l) && eqb (page_at l i) page
 
 -- the row of a page
-unfoldable pub row_for : List Mapping → ℕ → Found
-row_for l page = cond (stands_at l (place l page) page) (At (place l page)) Nothing
+unfoldable pub row_for : List Mapping → ℕ → Option ℕ
+row_for l page = cond (stands_at l (place l page) page) (Some (place l page)) None
 
-abbrev pub mapped_at : List Mapping → Found → Translated
-mapped_at l (At i) = Mapped (get_or l i no_mapping)
-mapped_at l Nothing = NotMapped
+abbrev pub mapped_at : List Mapping → Option ℕ → Option Mapping
+mapped_at l (Some i) = Some (get_or l i no_mapping)
+mapped_at l None = None
 
 -- what a page is mapped to, by the search
-unfoldable pub translate_by : List Mapping → ℕ → Translated
+unfoldable pub translate_by : List Mapping → ℕ → Option Mapping
 translate_by l page = mapped_at l (row_for l page)

@@ -1,7 +1,7 @@
 -- Laws of the halving search: what its loop knows, and that it counts the rows below a page where pages rise.
 use Rattle.std.proofs.Math.Path.{◌≡◌, refl, ap}
 use Rattle.std.proofs.Common.{sym, subst, ◌∙◌}
-use Rattle.std.specs.Prelude.{Bool, ◌&&◌, List, get_or, eqb}
+use Rattle.std.specs.Prelude.{Bool, ◌&&◌, List, get_or, eqb, Some, None}
 use Rattle.std.proofs.Math.Bool.{true, false, cond}
 use Prim.Native.Nat.{ℕ, zero, suc, ◌+◌, ◌-◌, ◌≤◌, ◌<◌}
 use native.Mathlib.Omega.{arith}
@@ -9,8 +9,6 @@ use Rattle.std.proofs.Math.ListN.{length}
 use Rattle.std.proofs.Math.Dec.{ltb}
 use borrow.Author.Tests.{ltb-true, ltb-false, lt-ltb, le-ltb}
 use Rattle.model.specs.declared.Mapping.{Mapping}
-use Rattle.model.specs.declared.Found.TheVariants.{At, Nothing}
-use Rattle.model.specs.declared.Translated.TheVariants.{Mapped, NotMapped}
 use Rattle.model.specs.Machine.{no_mapping}
 use Rattle.paging.specs.Place.{page_at, middle, halve, place, stands_at, row_for, translate_by}
 
@@ -101,28 +99,28 @@ module _ (l : List Mapping) (page : ℕ) where
   pub stands_past : (i : ℕ) → length l ≤ i → false ≡ stands_at l i page
   stands_past i h = rw (le-ltb i (length l) h)
 
-  pub row_found : (at : ℕ) → at ≡ place l page → (b : Bool) → b ≡ stands_at l at page → b ≡ true → At at ≡ row_for l page
+  pub row_found : (at : ℕ) → at ≡ place l page → (b : Bool) → b ≡ stands_at l at page → b ≡ true → Some at ≡ row_for l page
   unfolding row_for
   row_found at e b f t = rw (← e, ← f, t)
 
-  pub row_missing : (at : ℕ) → at ≡ place l page → (b : Bool) → b ≡ stands_at l at page → b ≡ false → Nothing ≡ row_for l page
+  pub row_missing : (at : ℕ) → at ≡ place l page → (b : Bool) → b ≡ stands_at l at page → b ≡ false → None ≡ row_for l page
   unfolding row_for
   row_missing at e b f t = rw (← e, ← f, t)
 
   -- a row that is found is one of the list, and the page's
-  pub row_inside : (at : ℕ) → At at ≡ row_for l page → at < length l
+  pub row_inside : (at : ℕ) → Some at ≡ row_for l page → at < length l
   unfolding row_for
   row_inside at e = go (ltb (place l page) (length l)) refl (eqb (page_at l (place l page)) page) e
     where
-      go : (a : Bool) → ltb (place l page) (length l) ≡ a → (b : Bool) → At at ≡ cond (a && b) (At (place l page)) Nothing → at < length l
+      go : (a : Bool) → ltb (place l page) (length l) ≡ a → (b : Bool) → Some at ≡ cond (a && b) (Some (place l page)) None → at < length l
       go true p true f = let same : at ≡ place l page = cc in let h = ltb-true (place l page) (length l) p in omega arith
       go true p false f = let z : ◌≡◌ {A = ℕ} 0 1 = cc in absurd (omega arith)
       go false p b f = let z : ◌≡◌ {A = ℕ} 0 1 = cc in absurd (omega arith)
 
-  pub translate_found : (at : ℕ) → At at ≡ row_for l page → (row : Mapping) → row ≡ get_or l at no_mapping → Mapped row ≡ translate_by l page
+  pub translate_found : (at : ℕ) → Some at ≡ row_for l page → (row : Mapping) → row ≡ get_or l at no_mapping → Some row ≡ translate_by l page
   unfolding translate_by
   translate_found at e row f = rw (← e, f)
 
-  pub translate_missing : Nothing ≡ row_for l page → NotMapped ≡ translate_by l page
+  pub translate_missing : None ≡ row_for l page → None ≡ translate_by l page
   unfolding translate_by
   translate_missing e = rw (← e)

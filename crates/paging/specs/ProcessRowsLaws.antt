@@ -1,9 +1,8 @@
 -- Laws of a process's rows: their number, the mapped ones among them, and what is read after rows or the count were put.
-use Rattle.std.specs.Prelude.{◌≡◌, List, ℕ, ◌+◌, ◌*◌, ◌≤◌, ◌<◌, get_or, take, set}
+use Rattle.std.specs.Prelude.{◌≡◌, List, ℕ, ◌+◌, ◌*◌, ◌≤◌, ◌<◌, get_or, take, min, set}
 use Rattle.std.proofs.Math.Path.{ap, sym}
-use Rattle.std.proofs.Common.{◌∙◌, arith, length-take, take_all}
+use Rattle.std.proofs.Common.{◌∙◌, arith, length-take}
 use Rattle.std.proofs.Math.ListN.{length}
-use Rattle.std.proofs.Math.Seq.{length-take-le}
 use Rattle.laws.specs.ListsLaws.{put_same, put_set, part_put, part_length, part_at, put_part_again}
 use Rattle.laws.specs.FirstRowsLaws.{taken_at}
 use Rattle.model.specs.declared.Process.{Process}
@@ -25,17 +24,11 @@ row_is m p i x h e = e ∙ sym (part_at m.mapped 128 p i no_mapping h)
 
 -- the mapped rows are the first ones, at most 128
 module _ (m : Machine) (p : ℕ) (h : p < 8) (sized : length m.mapped ≡ 1024) (q : Process) (read : q ≡ process_at m p) where
-  pub count_some : q.mapped < 128 → q.mapped ≡ length (mapped_of m p)
+  pub count_min : (r : ℕ) → r ≡ min q.mapped 128 → r ≡ length (mapped_of m p)
   unfolding mapped_of rows_of
-  count_some l =
+  count_min r e =
       let long = rows_of_length m p h sized in
-      sym (ap (λ (x : Process). length (take x.mapped (part 128 p m.mapped))) (sym read) ∙ length-take-le q.mapped (part 128 p m.mapped) (rw long (omega arith)))
-
-  pub count_all : 128 ≤ q.mapped → 128 ≡ length (mapped_of m p)
-  unfolding mapped_of rows_of
-  count_all l =
-      let long = rows_of_length m p h sized in
-      sym (ap (λ (x : Process). length (take x.mapped (part 128 p m.mapped))) (sym read) ∙ ap (λ x. length x) (take_all q.mapped (part 128 p m.mapped) (rw long (omega arith))) ∙ long)
+      e ∙ ap (λ n. min q.mapped n) (sym long) ∙ sym (length-take q.mapped (part 128 p m.mapped)) ∙ ap (λ (x : Process). length (take x.mapped (part 128 p m.mapped))) read
 
 pub mapped_row : (m : Machine) (p i : ℕ) → i < length (mapped_of m p) → get_or (rows_of m p) i no_mapping ≡ get_or (mapped_of m p) i no_mapping
 unfolding mapped_of rows_of

@@ -8,8 +8,8 @@ ghost use Rattle.paging.specs.Mapper.{mapped_pages, inserted, taken_out, map_by,
 
 use crate::mappings::{clear, lower, put_count, put_row, raise};
 use crate::search::{mapped_count, place, row_at, row_for};
-use address::{Page, PageTableFlags, PhysFrame, VirtAddr};
-use model::{Found, MAPPED_PAGES, Mapping, Region, Translated};
+use address::{Page, PageTableFlags};
+use model::{MAPPED_PAGES, Mapping, Region};
 
 // Puts a row at a place of the n in use.
 fn insert(words: &mut [u64], process: usize, at: usize, n: usize, row: Mapping)
@@ -48,7 +48,7 @@ pub fn map(words: &mut [u64], process: usize, row: Mapping) -> bool
 {
     let n = mapped_count(&words[..], process);
     if n < MAPPED_PAGES {
-        let at = place(&words[..], process, Page(row.page.0));
+        let at = place(&words[..], process, row.page);
         insert(words, process, at, n, row);
         return true;
     }
@@ -56,19 +56,17 @@ pub fn map(words: &mut [u64], process: usize, row: Mapping) -> bool
 }
 
 // Unmaps a page: what it was mapped to.
-pub fn unmap(words: &mut [u64], process: usize, page: Page) -> Translated
+pub fn unmap(words: &mut [u64], process: usize, page: Page) -> Option<Mapping>
     requires words_len { length words.old ≡ word_count }
     requires process_bound { process < 8 }
     ensures value { result ≡ translate_by (mapped_of (machine words.old) process) page.0 }
     ensures words_after { machine words.new ≡ unmap_by (machine words.old) process page.0 }
 {
-    let Found::At(at) = row_for(&words[..], process, page) else {
-        return Translated::NotMapped;
-    };
+    let at = row_for(&words[..], process, page)?;
     let n = mapped_count(&words[..], process);
     let row = row_at(&words[..], process, at);
     take_out(words, process, at, at + 1, n);
-    Translated::Mapped(row)
+    Some(row)
 }
 
 // Gives a mapped page other flags; false, and nothing changes, where it is not mapped.
@@ -78,16 +76,11 @@ pub fn remap(words: &mut [u64], process: usize, page: Page, flags: PageTableFlag
     ensures value { result ≡ is_found (row_for (mapped_of (machine words.old) process) page.0) }
     ensures words_after { machine words.new ≡ remap_by (machine words.old) process page.0 flags.0 }
 {
-    let Found::At(at) = row_for(&words[..], process, page) else {
+    let Some(at) = row_for(&words[..], process, page) else {
         return false;
     };
     let row = row_at(&words[..], process, at);
-    let other = Mapping {
-        page: Page(row.page.0),
-        frame: PhysFrame(row.frame.0),
-        flags: flags,
-    };
-    put_row(words, process, at, other);
+    put_row(words, process, at, Mapping { flags, ..row });
     true
 }
 
@@ -98,13 +91,11 @@ pub fn unmap_from(words: &mut [u64], process: usize, region: Region)
     ensures { machine words.new ≡ unmap_from_by (machine words.old) process region }
 {
     let n = mapped_count(&words[..], process);
-    let start = region.start.0;
-    let first = Page::starting_from(VirtAddr(start), 0);
-    let end = Page::starting_from(VirtAddr(start), region.size);
+    let first = Page::starting_from(region.start, 0);
+    let end = Page::starting_from(region.start, region.size);
     let from = place(&words[..], process, first);
     let to = place(&words[..], process, end);
     if from < to {
         take_out(words, process, from, to, n);
-        return;
     }
 }

@@ -6,7 +6,7 @@ ghost use Rattle.model.specs.Machine.{no_mapping};
 ghost use Rattle.paging.specs.ProcessRows.{rows_of, with_rows, with_count, put_rows};
 
 use crate::search::row_at;
-use address::{Page, PageTableFlags, PhysFrame, VirtAddr};
+use address::{Page, PageTableFlags, PhysFrame};
 use model::{MAPPED_PAGES, Mapping, Process};
 use rows::pages::put_mapping;
 use rows::processes::{process_at, put_process};
@@ -29,11 +29,8 @@ pub fn put_count(words: &mut [u64], process: usize, count: usize)
 {
     let p = process_at(&words[..], process);
     let row = Process {
-        opened: p.opened,
-        start: VirtAddr(p.start.0),
-        size: p.size,
-        attached: p.attached,
         mapped: count as u64,
+        ..p
     };
     put_process(words, process, row);
 }
@@ -58,10 +55,8 @@ pub fn raise(words: &mut [u64], process: usize, from: usize, to: usize)
     requires to_bound { to < 128 }
     ensures { machine words.new ≡ with_rows (machine words.old) process (put_rows (rows_of (machine words.old) process) (suc from) (slice from to (rows_of (machine words.old) process))) }
 {
-    let mut i = to;
-    while from < i {
-        copy_row(words, process, i - 1, i);
-        i -= 1;
+    for i in (from..to).rev() {
+        copy_row(words, process, i, i + 1);
     }
 }
 
@@ -74,10 +69,8 @@ pub fn lower(words: &mut [u64], process: usize, at: usize, from: usize, to: usiz
     requires to_bound { to ≤ 128 }
     ensures { machine words.new ≡ with_rows (machine words.old) process (put_rows (rows_of (machine words.old) process) at (slice from to (rows_of (machine words.old) process))) }
 {
-    let mut i = 0;
-    while i < to - from {
+    for i in 0..to - from {
         copy_row(words, process, from + i, at + i);
-        i += 1;
     }
 }
 
@@ -89,10 +82,8 @@ pub fn clear(words: &mut [u64], process: usize, from: usize, to: usize)
     requires to_bound { to ≤ 128 }
     ensures { machine words.new ≡ with_rows (machine words.old) process (put_rows (rows_of (machine words.old) process) from (replicate (to - from) no_mapping)) }
 {
-    let mut i = 0;
-    while i < to - from {
+    for i in 0..to - from {
         clear_row(words, process, from + i);
-        i += 1;
     }
 }
 

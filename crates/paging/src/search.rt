@@ -6,7 +6,7 @@ ghost use Rattle.paging.specs.Place.{place, stands_at, row_for, translate_by};
 ghost use Rattle.paging.specs.ProcessRows.{rows_of};
 
 use address::Page;
-use model::{Found, MAPPED_PAGES, Mapping, Translated};
+use model::{MAPPED_PAGES, Mapping};
 use rows::pages::mapping_at;
 use rows::processes::process_at;
 
@@ -18,10 +18,7 @@ pub fn mapped_count(words: &[u64], process: usize) -> usize
     ensures upper_bound { result ≤ 128 }
 {
     let p = process_at(words, process);
-    if p.mapped < MAPPED_PAGES as u64 {
-        return p.mapped as usize;
-    }
-    MAPPED_PAGES
+    p.mapped.min(MAPPED_PAGES as u64) as usize
 }
 
 // A row of a process's 128.
@@ -46,11 +43,11 @@ pub fn place(words: &[u64], process: usize, page: Page) -> usize
     while lo < hi {
         let mid = (lo + hi) / 2;
         let row = row_at(words, process, mid);
-        if row.page.0 < page.0 {
+        if row.page < page {
             lo = mid + 1;
-            continue;
+        } else {
+            hi = mid;
         }
-        hi = mid;
     }
     lo
 }
@@ -61,36 +58,28 @@ pub fn stands_at(words: &[u64], process: usize, i: usize, page: Page) -> bool
     requires process_bound { process < 8 }
     ensures { result ≡ stands_at (mapped_of (machine words.now) process) i page.0 }
 {
-    let n = mapped_count(words, process);
-    if i < n {
-        let row = row_at(words, process, i);
-        return row.page.0 == page.0;
-    }
-    false
+    i < mapped_count(words, process) && row_at(words, process, i).page == page
 }
 
 // The row of a page, if it is mapped.
-pub fn row_for(words: &[u64], process: usize, page: Page) -> Found
+pub fn row_for(words: &[u64], process: usize, page: Page) -> Option<usize>
     requires words_len { length words.now ≡ word_count }
     requires process_bound { process < 8 }
     ensures { result ≡ row_for (mapped_of (machine words.now) process) page.0 }
 {
     let at = place(words, process, page);
     if stands_at(words, process, at, page) {
-        return Found::At(at);
+        return Some(at);
     }
-    Found::Nothing
+    None
 }
 
 // What a page is mapped to.
-pub fn translate(words: &[u64], process: usize, page: Page) -> Translated
+pub fn translate(words: &[u64], process: usize, page: Page) -> Option<Mapping>
     requires words_len { length words.now ≡ word_count }
     requires process_bound { process < 8 }
     ensures { result ≡ translate_by (mapped_of (machine words.now) process) page.0 }
 {
-    let Found::At(at) = row_for(words, process, page) else {
-        return Translated::NotMapped;
-    };
-    let row = row_at(words, process, at);
-    Translated::Mapped(row)
+    let at = row_for(words, process, page)?;
+    Some(row_at(words, process, at))
 }

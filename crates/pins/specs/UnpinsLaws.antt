@@ -1,11 +1,9 @@
 -- Laws of one pin less: whether a slot is listed, whether the region ends.
-use Rattle.std.specs.Prelude.{◌≡◌, ℕ, ◌+◌, ◌-◌, ◌*◌, Bool, true, false, cond, not, ◌||◌, List, [], ◌∷◌, ◌==◌, ◌≢◌, nat_eq, slice_set}
+use Rattle.std.specs.Prelude.{◌≡◌, ℕ, ◌+◌, ◌-◌, ◌*◌, Bool, true, false, cond, not, ◌||◌, List, [], ◌∷◌, ◌==◌, ◌≢◌, nat_eq, slice_set, Option, Some, None}
 use Rattle.std.specs.Prelude.{refl}
 use Rattle.std.proofs.Math.Path.{ap}
 use Rattle.std.proofs.Common.{sym, ◌∙◌, eq-eqb, ne_eqb}
 use Rattle.model.specs.declared.Region.{Region}
-use Rattle.model.specs.declared.Found.{Found}
-use Rattle.model.specs.declared.Found.TheVariants.{At, Nothing}
 use Rattle.laws.specs.Lists.{any, among}
 use Rattle.model.specs.Machine.{Machine, with_regions, with_region, region_at}
 use Rattle.model.specs.Lookup.{is_attached, is_found, first_slot}
@@ -21,15 +19,15 @@ unfolding first_slot any
 found_among s [] = refl
 found_among s (x ∷ l) = go (s == x) (found_among s l)
   where
-    go : (b : Bool) → is_found (first_slot (nat_eq s) l) ≡ among s l → is_found (cond b (At x) (first_slot (nat_eq s) l)) ≡ (b || among s l)
+    go : (b : Bool) → is_found (first_slot (nat_eq s) l) ≡ among s l → is_found (cond b (Some x) (first_slot (nat_eq s) l)) ≡ (b || among s l)
     go true rest = refl
     go false rest = rest
 
-pub is_among : (s : ℕ) (l : List ℕ) (x : ℕ) → At x ≡ first_slot (nat_eq s) l → true ≡ among s l
-is_among s l x e = ap (λ (f : Found). is_found f) e ∙ found_among s l
+pub is_among : (s : ℕ) (l : List ℕ) (x : ℕ) → Some x ≡ first_slot (nat_eq s) l → true ≡ among s l
+is_among s l x e = ap (λ (f : Option ℕ). is_found f) e ∙ found_among s l
 
-pub not_among : (s : ℕ) (l : List ℕ) → Nothing ≡ first_slot (nat_eq s) l → false ≡ among s l
-not_among s l e = ap (λ (f : Found). is_found f) e ∙ found_among s l
+pub not_among : (s : ℕ) (l : List ℕ) → None ≡ first_slot (nat_eq s) l → false ≡ among s l
+not_among s l e = ap (λ (f : Option ℕ). is_found f) e ∙ found_among s l
 
 pub more_pins : (m : Machine) (p s pins : ℕ) → (pins ≢ 1) → false ≡ ends_by m p s pins
 more_pins m p s pins n = rw (ne_eqb pins 1 n) refl

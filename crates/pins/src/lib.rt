@@ -11,11 +11,10 @@ ghost use Rattle.pins.specs.Unpins.{ends_by, Unpinned};
 
 use address::VirtAddr;
 use answers::Refusal;
-use backing::by_value::fewer;
 use lookup::attached::{any_region_for, attached_count};
-use lookup::named::{Named, region_named};
+use lookup::named::region_named;
 use lookup::search::is_open;
-use model::{Done, Found, MOST_PINS, Region, SLOTS};
+use model::{MOST_PINS, Region, SLOTS};
 use regions::slot::region_in;
 use remove::drop::drop_region;
 use rows::slots::{order_at, put_region};
@@ -24,45 +23,23 @@ use rows::slots::{order_at, put_region};
 fn with_pins(region: Region, pins: u64) -> Region
     ensures { result ≡ with_pins region pins }
 {
-    let start = region.start;
-    let flags = region.flags;
-    let range = region.range;
-    Region {
-        kind: region.kind,
-        start: start,
-        size: region.size,
-        flags: flags,
-        fork: region.fork,
-        per_thread: region.per_thread,
-        pins: pins,
-        file: region.file,
-        offset: region.offset,
-        length: region.length,
-        ranged: region.ranged,
-        range: range,
-    }
+    Region { pins, ..region }
 }
 
 // Pins the region at an address: the core of the call.
-pub fn pin_core(words: &mut [u64], process: u64, addr: VirtAddr) -> Done
+pub fn pin_core(words: &mut [u64], process: u64, addr: VirtAddr) -> Result<(), Refusal>
     requires words_len { length words.old ≡ word_count }
     requires sound_words { SoundWords words.old }
     ensures { DoesWords (λ s. calls.pin s process addr.0) words.old words.new result }
 {
-    match region_named(&words[..], process, addr) {
-        Named::No(refusal) => {
-            return Done::No(refusal);
-        }
-        Named::Slot(slot) => {
-            let region = region_in(&words[..], process as usize, slot);
-            if MOST_PINS <= region.pins {
-                return Done::No(Refusal::TableFull);
-            }
-            let row = with_pins(region, region.pins + 1);
-            put_region(words, process as usize * SLOTS + slot, row);
-            return Done::Yes;
-        }
+    let slot = region_named(&words[..], process, addr)?;
+    let region = region_in(&words[..], process as usize, slot);
+    if MOST_PINS <= region.pins {
+        return Err(Refusal::TableFull);
     }
+    let row = with_pins(region, region.pins + 1);
+    put_region(words, process as usize * SLOTS + slot, row);
+    Ok(())
 }
 
 // Whether a process's list names a slot.
@@ -72,13 +49,11 @@ pub fn is_attached(words: &[u64], process: usize, slot: usize) -> bool
     ensures { result ≡ is_attached (machine words.now) process slot }
 {
     let n = attached_count(words, process);
-    let mut i = 0;
-    while i < n {
+    for i in 0..n {
         let here = order_at(words, process * SLOTS + i);
         if slot as u64 == here {
             return true;
         }
-        i += 1;
     }
     false
 }
@@ -107,28 +82,26 @@ fn unpin_region(words: &mut [u64], process: usize, slot: usize)
         drop_region(words, process, slot);
         return;
     }
-    let row = with_pins(region, fewer(region.pins, 1));
+    let row = with_pins(region, region.pins.saturating_sub(1));
     put_region(words, process * SLOTS + slot, row);
 }
 
 // Unpins the region at an address, attached or detached: the core of the call.
-pub fn unpin_core(words: &mut [u64], process: u64, addr: VirtAddr) -> Done
+pub fn unpin_core(words: &mut [u64], process: u64, addr: VirtAddr) -> Result<(), Refusal>
     requires { length words.old ≡ word_count }
     ensures { DoesWords (λ s. calls.unpin s process addr.0) words.old words.new result }
 {
     if !is_open(&words[..], process) {
-        return Done::No(Refusal::NoProcess);
+        return Err(Refusal::NoProcess);
     }
     if !addr.is_user() {
-        return Done::No(Refusal::BadAddress);
+        return Err(Refusal::BadAddress);
     }
-    let Found::At(slot) = any_region_for(&words[..], process as usize, addr) else {
-        return Done::No(Refusal::NoRegion);
-    };
+    let slot = any_region_for(&words[..], process as usize, addr).ok_or(Refusal::NoRegion)?;
     let region = region_in(&words[..], process as usize, slot);
     if region.pins == 0 {
-        return Done::No(Refusal::NoRegion);
+        return Err(Refusal::NoRegion);
     }
     unpin_region(words, process as usize, slot);
-    Done::Yes
+    Ok(())
 }

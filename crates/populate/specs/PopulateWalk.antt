@@ -1,6 +1,5 @@
 -- A walk over pages, step by step: what is left of it gives what the whole gives (RULES U1).
-use Rattle.std.specs.Prelude.{◌≡◌, Bool, true, ℕ, ◌<◌}
-use Rattle.model.specs.declared.Done.TheVariants.{Yes}
+use Rattle.std.specs.Prelude.{◌≡◌, Bool, true, ℕ, ◌<◌, Ok}
 use Rattle.model.specs.Machine.{State}
 use Rattle.model.specs.Answers.{Try, leaving, and_then}
 use Rattle.model.specs.Populate.{visit}
@@ -16,4 +15,4 @@ pub record Stepped (p last : ℕ) (w : Bool) (at : Visit) (s : State) (r : Visit
   pub same : resume p last w r t ≡ resume p last w at s
   pub sound : soundb t ≡ true
   pub fewer : r.left < at.left
-  pub goes : 0 < r.left → r.done ≡ Yes
+  pub goes : 0 < r.left → r.done ≡ Ok tt

@@ -1,18 +1,15 @@
 -- Laws: a walk over pages, step by step.
-use Rattle.std.specs.Prelude.{◌≡◌, Bool, cond, List, ltb}
+use Rattle.std.specs.Prelude.{◌≡◌, Bool, cond, List, ltb, Option, Some, None, Result, Ok, Err, ⊤}
 use Rattle.std.proofs.Math.Path.{refl, ap, sym, subst}
 use Rattle.std.proofs.Common.{◌∙◌, not-suc-le-zero, lt-ltb, le-ltb}
 use Rattle.std.proofs.Math.Bool.{true, false}
 use Prim.Native.Nat.{ℕ, zero, suc, ◌+◌, ◌-◌, ◌^◌, ◌≤◌, ◌<◌}
 use native.Mathlib.Omega.{arith}
+use Rattle.model.specs.declared.Mapping.{Mapping}
+use Rattle.answers.specs.declared.Refusal.{Refusal}
 use Rattle.address.specs.Pages.{start_of}
 use Rattle.address.specs.PagesLaws.{start_exact}
 use Rattle.laws.specs.TellsLaws.{told}
-use Rattle.model.specs.declared.Translated.{Translated}
-use Rattle.model.specs.declared.Done.{Done}
-use Rattle.model.specs.declared.Done.TheVariants.{Yes, No}
-use Rattle.model.specs.declared.Found.{Found}
-use Rattle.model.specs.declared.Found.TheVariants.{At, Nothing}
 use Rattle.model.specs.Layout.{machine}
 use Rattle.model.specs.Machine.{Machine, State, region_at, order_of, mapped_of}
 use Rattle.model.specs.Lookup.{contains, region_for}
@@ -39,20 +36,20 @@ use Rattle.populate.specs.PopulateWalk.{resume, Stepped}
 -- ---- one page
 
 module _ (w f b : List ℕ) (p slot page : ℕ) (write : Bool) where
-  module _ (t : Translated) (e : t ≡ translate (mapped_of (machine w) p) page) (c : Bool) (g : c ≡ well_mapped t write) where
+  module _ (t : Option Mapping) (e : t ≡ translate (mapped_of (machine w) p) page) (c : Bool) (g : c ≡ well_mapped t write) where
     tested : well_mapped (translate (mapped_of (machine w) p) page) write ≡ c
-    tested = sym (g ∙ ap (λ (x : Translated). well_mapped x write) e)
+    tested = sym (g ∙ ap (λ (x : Option Mapping). well_mapped x write) e)
 
-    pub page_well : c ≡ true → DoesWith (λ s. populate_page s p slot page write) w f b w f Yes
+    pub page_well : c ≡ true → DoesWith (λ s. populate_page s p slot page write) w f b w f (Ok tt)
     unfolding populate_page
     page_well h = rw (tested ∙ h) refl
 
-    pub page_fault : c ≡ false → (w' f' : List ℕ) (d : Done) → DoesWith (λ s. handle_fault s p slot page write) w f b w' f' d → DoesWith (λ s. populate_page s p slot page write) w f b w' f' d
+    pub page_fault : c ≡ false → (w' f' : List ℕ) (d : Result ⊤ Refusal) → DoesWith (λ s. handle_fault s p slot page write) w f b w' f' d → DoesWith (λ s. populate_page s p slot page write) w f b w' f' d
     unfolding populate_page
     page_fault h w' f' d k = rw (tested ∙ h) k
 
   -- it leaves a sound machine
-  pub page_sound : FaultFits w f b p slot page → (w' f' : List ℕ) (d : Done) → DoesWith (λ s. populate_page s p slot page write) w f b w' f' d → soundb (state_of w' f' b) ≡ true
+  pub page_sound : FaultFits w f b p slot page → (w' f' : List ℕ) (d : Result ⊤ Refusal) → DoesWith (λ s. populate_page s p slot page write) w f b w' f' d → soundb (state_of w' f' b) ≡ true
   unfolding populate_page
   page_sound fits w' f' d k = told (sound_tells (state_of w' f' b)) (subst (λ (x : Try). Sound x.state) k (go (well_mapped (translate (mapped_of (machine w) p) page) write)))
     where
@@ -61,11 +58,11 @@ module _ (w f b : List ℕ) (p slot page : ℕ) (write : Bool) where
       go false = fault_core (state_of w f b) (fits_sound w f b p slot page fits) p slot page fits.listed fits.inside write
 
 -- a region looked up at a page's start
-pub at_start : (m : Machine) (p page last a : ℕ) → a ≡ start_of page → page ≤ last → last < 2 ^ 52 → (x : Found) → x ≡ region_for m p a → x ≡ region_for m p (page_start page)
+pub at_start : (m : Machine) (p page last a : ℕ) → a ≡ start_of page → page ≤ last → last < 2 ^ 52 → (x : Option ℕ) → x ≡ region_for m p a → x ≡ region_for m p (page_start page)
 at_start m p page last a e h k x g = let exact = start_exact page (omega arith) in g ∙ ap (λ (i : ℕ). region_for m p i) (e ∙ exact)
 
 -- a region that was found is one of an open process
-pub found_fits : (w f b : List ℕ) → soundb (state_of w f b) ≡ true → (p slot page : ℕ) (x : Found) → x ≡ region_for (machine w) p (page_start page) → x ≡ At slot → FaultFits w f b p slot page
+pub found_fits : (w f b : List ℕ) → soundb (state_of w f b) ≡ true → (p slot page : ℕ) (x : Option ℕ) → x ≡ region_for (machine w) p (page_start page) → x ≡ Some slot → FaultFits w f b p slot page
 unfolding region_for
 found_fits w f b sound p slot page x e g =
     let k = first_found (λ (t : ℕ). contains (region_at (machine w) p t) (page_start page)) (order_of (machine w) p) slot (sym e ∙ g) in
@@ -76,8 +73,8 @@ found_fits w f b sound p slot page x e g =
 
 module _ (s : State) (p page last : ℕ) (w : Bool) where
   -- a step, by what is looked up
-  abbrev body : ℕ → Bool → Found → Found → Try
-  body n b x y = elim b as (λ z. Try) [ true ↦ fine s | false ↦ elim x as (λ z. Try) [ At slot ↦ and_then (populate_page s p slot page w) (λ t. visit n t p (page + 1) last w) | Nothing ↦ elim y as (λ z. Try) [ At next ↦ visit n s p next last w | Nothing ↦ fine s ] ] ]
+  abbrev body : ℕ → Bool → Option ℕ → Option ℕ → Try
+  body n b x y = elim b as (λ z. Try) [ true ↦ fine s | false ↦ elim x as (λ z. Try) [ Some slot ↦ and_then (populate_page s p slot page w) (λ t. visit n t p (page + 1) last w) | None ↦ elim y as (λ z. Try) [ Some next ↦ visit n s p next last w | None ↦ fine s ] ] ]
 
   visit_body : (k : ℕ) → 0 < k → visit k s p page last w ≡ body (k - 1) (ltb last page) (region_for s.machine p (page_start page)) (next_start s.machine p page)
   unfolding visit
@@ -87,77 +84,77 @@ module _ (s : State) (p page last : ℕ) (w : Bool) where
   visit_past : (k : ℕ) → 0 < k → last < page → visit k s p page last w ≡ fine s
   visit_past k h l = visit_body k h ∙ ap (λ (b : Bool). body (k - 1) b (region_for s.machine p (page_start page)) (next_start s.machine p page)) (lt-ltb last page l)
 
-  visit_found : (k : ℕ) → 0 < k → page ≤ last → (slot : ℕ) → region_for s.machine p (page_start page) ≡ At slot → visit k s p page last w ≡ and_then (populate_page s p slot page w) (λ t. visit (k - 1) t p (page + 1) last w)
+  visit_found : (k : ℕ) → 0 < k → page ≤ last → (slot : ℕ) → region_for s.machine p (page_start page) ≡ Some slot → visit k s p page last w ≡ and_then (populate_page s p slot page w) (λ t. visit (k - 1) t p (page + 1) last w)
   visit_found k h l slot e = visit_body k h ∙ (λ i. body (k - 1) (le-ltb last page l i) (e i) (next_start s.machine p page))
 
-  visit_gap : (k : ℕ) → 0 < k → page ≤ last → region_for s.machine p (page_start page) ≡ Nothing → (next : ℕ) → next_start s.machine p page ≡ At next → visit k s p page last w ≡ visit (k - 1) s p next last w
+  visit_gap : (k : ℕ) → 0 < k → page ≤ last → region_for s.machine p (page_start page) ≡ None → (next : ℕ) → next_start s.machine p page ≡ Some next → visit k s p page last w ≡ visit (k - 1) s p next last w
   visit_gap k h l e next g = visit_body k h ∙ (λ i. body (k - 1) (le-ltb last page l i) (e i) (g i))
 
-  visit_end : (k : ℕ) → 0 < k → page ≤ last → region_for s.machine p (page_start page) ≡ Nothing → next_start s.machine p page ≡ Nothing → visit k s p page last w ≡ fine s
+  visit_end : (k : ℕ) → 0 < k → page ≤ last → region_for s.machine p (page_start page) ≡ None → next_start s.machine p page ≡ None → visit k s p page last w ≡ fine s
   visit_end k h l e g = visit_body k h ∙ (λ i. body (k - 1) (le-ltb last page l i) (e i) (g i))
 
 pub walk_done : (p last : ℕ) (w : Bool) (v : Visit) (s : State) → v.left ≤ 0 → resume p last w v s ≡ leaving v.done s
 unfolding visit
 walk_done p last w v s h = let z : v.left ≡ 0 = omega arith in ap (λ (k : ℕ). and_then (leaving v.done s) (λ t. visit k t p v.page.0 last w)) z ∙ go v.done
   where
-    go : (d : Done) → and_then (leaving d s) (λ t. visit 0 t p v.page.0 last w) ≡ leaving d s
-    go Yes = refl
-    go (No r) = refl
+    go : (d : Result ⊤ Refusal) → and_then (leaving d s) (λ t. visit 0 t p v.page.0 last w) ≡ leaving d s
+    go (Ok tt) = refl
+    go (Err r) = refl
 
-module _ (p last : ℕ) (w : Bool) (at : Visit) (some : 0 < at.left) (going : at.done ≡ Yes) where
+module _ (p last : ℕ) (w : Bool) (at : Visit) (some : 0 < at.left) (going : at.done ≡ Ok tt) where
   whole : (s : State) → visit at.left s p at.page.0 last w ≡ resume p last w at s
-  whole s = ap (λ (d : Done). and_then (leaving d s) (λ t. visit at.left t p at.page.0 last w)) (sym going)
+  whole s = ap (λ (d : Result ⊤ Refusal). and_then (leaving d s) (λ t. visit at.left t p at.page.0 last w)) (sym going)
 
-  pub step_past : (s : State) → soundb s ≡ true → last < at.page.0 → (r : Visit) → r ≡ ended Yes → Stepped p last w at s r s
+  pub step_past : (s : State) → soundb s ≡ true → last < at.page.0 → (r : Visit) → r ≡ ended (Ok tt) → Stepped p last w at s r s
   unfolding visit
   step_past s sound h r e =
       record {
         same = ap (λ (v : Visit). resume p last w v s) e ∙ sym (visit_past s p at.page.0 last w at.left some h) ∙ whole s;
         sound = sound;
         fewer = subst (λ (v : Visit). v.left < at.left) (sym e) some;
-        goes = subst (λ (v : Visit). 0 < v.left → v.done ≡ Yes) (sym e) (λ z. refl);
+        goes = subst (λ (v : Visit). 0 < v.left → v.done ≡ Ok tt) (sym e) (λ z. refl);
       }
 
-  module _ (s : State) (sound : soundb s ≡ true) (h : at.page.0 ≤ last) (x : Found) (here : x ≡ region_for s.machine p (page_start at.page.0)) where
-    pub step_gap : x ≡ Nothing → (r : Visit) → r ≡ gap_visit at.left (next_start s.machine p at.page.0) → Stepped p last w at s r s
+  module _ (s : State) (sound : soundb s ≡ true) (h : at.page.0 ≤ last) (x : Option ℕ) (here : x ≡ region_for s.machine p (page_start at.page.0)) where
+    pub step_gap : x ≡ None → (r : Visit) → r ≡ gap_visit at.left (next_start s.machine p at.page.0) → Stepped p last w at s r s
     unfolding visit
     step_gap g r e = go (next_start s.machine p at.page.0) refl
       where
-        go : (n : Found) → next_start s.machine p at.page.0 ≡ n → Stepped p last w at s r s
-        go (At next) k =
-            let is : r ≡ gap_visit at.left (At next) = e ∙ ap (λ (y : Found). gap_visit at.left y) k in
+        go : (n : Option ℕ) → next_start s.machine p at.page.0 ≡ n → Stepped p last w at s r s
+        go (Some next) k =
+            let is : r ≡ gap_visit at.left (Some next) = e ∙ ap (λ (y : Option ℕ). gap_visit at.left y) k in
             let less : at.left - 1 < at.left = omega arith in
             record {
               same = ap (λ (v : Visit). resume p last w v s) is ∙ sym (visit_gap s p at.page.0 last w at.left some h (sym here ∙ g) next k) ∙ whole s;
               sound = sound;
               fewer = subst (λ (v : Visit). v.left < at.left) (sym is) less;
-              goes = subst (λ (v : Visit). 0 < v.left → v.done ≡ Yes) (sym is) (λ z. refl);
+              goes = subst (λ (v : Visit). 0 < v.left → v.done ≡ Ok tt) (sym is) (λ z. refl);
             }
-        go Nothing k =
-            let is : r ≡ ended Yes = e ∙ ap (λ (y : Found). gap_visit at.left y) k in
+        go None k =
+            let is : r ≡ ended (Ok tt) = e ∙ ap (λ (y : Option ℕ). gap_visit at.left y) k in
             record {
               same = ap (λ (v : Visit). resume p last w v s) is ∙ sym (visit_end s p at.page.0 last w at.left some h (sym here ∙ g) k) ∙ whole s;
               sound = sound;
               fewer = subst (λ (v : Visit). v.left < at.left) (sym is) some;
-              goes = subst (λ (v : Visit). 0 < v.left → v.done ≡ Yes) (sym is) (λ z. refl);
+              goes = subst (λ (v : Visit). 0 < v.left → v.done ≡ Ok tt) (sym is) (λ z. refl);
             }
 
-    pub step_page : (slot : ℕ) → x ≡ At slot → (t : State) (d : Done) → populate_page s p slot at.page.0 w ≡ leaving d t → soundb t ≡ true → (r : Visit) → r ≡ page_visit at.page.0 at.left d → Stepped p last w at s r t
+    pub step_page : (slot : ℕ) → x ≡ Some slot → (t : State) (d : Result ⊤ Refusal) → populate_page s p slot at.page.0 w ≡ leaving d t → soundb t ≡ true → (r : Visit) → r ≡ page_visit at.page.0 at.left d → Stepped p last w at s r t
     unfolding visit
     step_page slot g t d does still r e =
-        record { same = ap (λ (v : Visit). resume p last w v t) e ∙ go d ∙ sym (visit_found s p at.page.0 last w at.left some h slot (sym here ∙ g) ∙ ap (λ (y : Try). and_then y (λ u. visit (at.left - 1) u p (at.page.0 + 1) last w)) does) ∙ whole s; sound = still; fewer = subst (λ (v : Visit). v.left < at.left) (sym e) (less d); goes = subst (λ (v : Visit). 0 < v.left → v.done ≡ Yes) (sym e) (left d) }
+        record { same = ap (λ (v : Visit). resume p last w v t) e ∙ go d ∙ sym (visit_found s p at.page.0 last w at.left some h slot (sym here ∙ g) ∙ ap (λ (y : Try). and_then y (λ u. visit (at.left - 1) u p (at.page.0 + 1) last w)) does) ∙ whole s; sound = still; fewer = subst (λ (v : Visit). v.left < at.left) (sym e) (less d); goes = subst (λ (v : Visit). 0 < v.left → v.done ≡ Ok tt) (sym e) (left d) }
       where
-        go : (d : Done) → resume p last w (page_visit at.page.0 at.left d) t ≡ and_then (leaving d t) (λ u. visit (at.left - 1) u p (at.page.0 + 1) last w)
-        go Yes = refl
-        go (No q) = refl
+        go : (d : Result ⊤ Refusal) → resume p last w (page_visit at.page.0 at.left d) t ≡ and_then (leaving d t) (λ u. visit (at.left - 1) u p (at.page.0 + 1) last w)
+        go (Ok tt) = refl
+        go (Err q) = refl
 
-        less : (d : Done) → (page_visit at.page.0 at.left d).left < at.left
-        less Yes = omega arith
-        less (No q) = some
+        less : (d : Result ⊤ Refusal) → (page_visit at.page.0 at.left d).left < at.left
+        less (Ok tt) = omega arith
+        less (Err q) = some
 
-        left : (d : Done) → 0 < (page_visit at.page.0 at.left d).left → (page_visit at.page.0 at.left d).done ≡ Yes
-        left Yes z = refl
-        left (No q) z = absurd (not-suc-le-zero z)
+        left : (d : Result ⊤ Refusal) → 0 < (page_visit at.page.0 at.left d).left → (page_visit at.page.0 at.left d).done ≡ Ok tt
+        left (Ok tt) z = refl
+        left (Err q) z = absurd (not-suc-le-zero z)
 
 -- ---- the loop
 
@@ -165,7 +162,7 @@ module _ (p last : ℕ) (w : Bool) (at : Visit) (some : 0 < at.left) (going : at
 pub record Walking (p last : ℕ) (w : Bool) (all : Try) (at : Visit) (s : State) : Type 0 where
   pub same : resume p last w at s ≡ all
   pub sound : soundb s ≡ true
-  pub goes : 0 < at.left → at.done ≡ Yes
+  pub goes : 0 < at.left → at.done ≡ Ok tt
 
 pub walking_more : (p last : ℕ) (w : Bool) (all : Try) (at : Visit) (s : State) (r : Visit) (t : State) → Walking p last w all at s → Stepped p last w at s r t → Walking p last w all r t
 walking_more p last w all at s r t k g = record { same = g.same ∙ k.same; sound = g.sound; goes = g.goes }

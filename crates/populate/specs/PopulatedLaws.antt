@@ -1,5 +1,5 @@
 -- Laws: populate, its refusals, nothing to do, or the walk.
-use Rattle.std.specs.Prelude.{◌≡◌, Bool, ◌&&◌, cond, List, ℕ, ◌/◌, ◌^◌, ◌<◌}
+use Rattle.std.specs.Prelude.{◌≡◌, Bool, ◌&&◌, cond, List, ℕ, ◌/◌, ◌^◌, ◌<◌, Result, Ok, Err, ⊤}
 use Rattle.std.proofs.Math.Path.{refl, ap}
 use Rattle.std.proofs.Common.{sym, ◌∙◌, arith}
 use Rattle.std.proofs.Math.Bool.{true, false, not}
@@ -8,8 +8,6 @@ use Rattle.address.specs.Canonical.{user}
 use Rattle.address.specs.declared.VirtAddr.{VirtAddr}
 use Rattle.answers.specs.declared.Refusal.{Refusal}
 use Rattle.answers.specs.declared.Refusal.TheVariants.{NoProcess, BadAddress, BadRange}
-use Rattle.model.specs.declared.Done.{Done}
-use Rattle.model.specs.declared.Done.TheVariants.{Yes, No}
 use Rattle.model.specs.Layout.{machine}
 use Rattle.model.specs.Lookup.{is_open}
 use Rattle.model.specs.Populate.{visit, visits, nothing_to_do, upper_last, last_address, core_populate}
@@ -65,38 +63,38 @@ module _ (a len : ℕ) (x : Span) (e : x ≡ span_of a len) where
       go false false t q r = absurd (omega arith)
 
 module _ (w f b : List ℕ) (sound : soundb (state_of w f b) ≡ true) (p a len : ℕ) (write : Bool) (o : Bool) (opens : o ≡ is_open (machine w) p) where
-  pub populate_closed : not o ≡ true → DoesWith (λ s. populate s p a len write) w f b w f (No NoProcess)
+  pub populate_closed : not o ≡ true → DoesWith (λ s. populate s p a len write) w f b w f (Err NoProcess)
   unfolding populate populate_refusals
-  populate_closed h = refused (state_of w f b) (λ (q : Refusal). No q) _ _ sound NoProcess (first_here _ NoProcess _ (not_no _ (sym opens ∙ not-true o h)))
+  populate_closed h = refused (state_of w f b) (λ (q : Refusal). Err q) _ _ sound NoProcess (first_here _ NoProcess _ (not_no _ (sym opens ∙ not-true o h)))
 
   module _ (h : not o ≡ false) (u : Bool) (users : u ≡ user a) where
     open' : not (is_open (machine w) p) ≡ false
     open' = not_yes _ (sym opens ∙ not-false o h)
 
-    pub populate_address : not u ≡ true → DoesWith (λ s. populate s p a len write) w f b w f (No BadAddress)
+    pub populate_address : not u ≡ true → DoesWith (λ s. populate s p a len write) w f b w f (Err BadAddress)
     unfolding populate populate_refusals
-    populate_address g = refused (state_of w f b) (λ (q : Refusal). No q) _ _ sound BadAddress (first_later _ NoProcess _ _ open' (first_here _ BadAddress _ (not_no _ (sym users ∙ not-true u g))))
+    populate_address g = refused (state_of w f b) (λ (q : Refusal). Err q) _ _ sound BadAddress (first_later _ NoProcess _ _ open' (first_here _ BadAddress _ (not_no _ (sym users ∙ not-true u g))))
 
     module _ (g : not u ≡ false) (x : Span) (e : x ≡ span_of a len) where
       good : not (user a) ≡ false
       good = not_yes _ (sym users ∙ not-false u g)
 
-      pub populate_upper : x ≡ span.Upper → DoesWith (λ s. populate s p a len write) w f b w f (No BadRange)
+      pub populate_upper : x ≡ span.Upper → DoesWith (λ s. populate s p a len write) w f b w f (Err BadRange)
       unfolding populate populate_refusals
-      populate_upper k = refused (state_of w f b) (λ (q : Refusal). No q) _ _ sound BadRange (first_later _ NoProcess _ _ open' (first_later _ BadAddress _ _ good (first_here _ BadRange _ (upper_told a len x e k))))
+      populate_upper k = refused (state_of w f b) (λ (q : Refusal). Err q) _ _ sound BadRange (first_later _ NoProcess _ _ open' (first_later _ BadAddress _ _ good (first_here _ BadRange _ (upper_told a len x e k))))
 
-      pub populate_nothing : x ≡ span.Nothing → DoesWith (λ s. populate s p a len write) w f b w f Yes
+      pub populate_nothing : x ≡ span.Nothing → DoesWith (λ s. populate s p a len write) w f b w f (Ok tt)
       unfolding populate populate_refusals core_populate
       populate_nothing k =
           let t = nothing_told a len x e k in
-          granted (state_of w f b) (λ (q : Refusal). No q) _ _ sound (first_later _ NoProcess _ _ open' (first_later _ BadAddress _ _ good (first_later _ BadRange _ _ t.1 first_none)))
+          granted (state_of w f b) (λ (q : Refusal). Err q) _ _ sound (first_later _ NoProcess _ _ open' (first_later _ BadAddress _ _ good (first_later _ BadRange _ _ t.1 first_none)))
           ∙ rw t.0 refl
 
-      pub populate_visits : (l : VirtAddr) → x ≡ span.To l → (first last : ℕ) → first ≡ a / 4096 → last ≡ l.0 / 4096 → (w' f' : List ℕ) (d : Done) → DoesWith (λ s. visit visits s p first last write) w f b w' f' d → DoesWith (λ s. populate s p a len write) w f b w' f' d
+      pub populate_visits : (l : VirtAddr) → x ≡ span.To l → (first last : ℕ) → first ≡ a / 4096 → last ≡ l.0 / 4096 → (w' f' : List ℕ) (d : Result ⊤ Refusal) → DoesWith (λ s. visit visits s p first last write) w f b w' f' d → DoesWith (λ s. populate s p a len write) w f b w' f' d
       unfolding populate populate_refusals core_populate
       populate_visits l k first last i j w' f' d does =
           let t = to_told a len x e l k in
-          granted (state_of w f b) (λ (q : Refusal). No q) _ _ sound (first_later _ NoProcess _ _ open' (first_later _ BadAddress _ _ good (first_later _ BadRange _ _ t.1.0 first_none)))
+          granted (state_of w f b) (λ (q : Refusal). Err q) _ _ sound (first_later _ NoProcess _ _ open' (first_later _ BadAddress _ _ good (first_later _ BadRange _ _ t.1.0 first_none)))
           ∙ rw t.0 (sym (λ q. visit visits (state_of w f b) p (i q) ((j ∙ ap (λ (n : ℕ). n / 4096) t.1.1.0) q) write) ∙ does)
 
 pub user_low : (a : ℕ) (u : Bool) → u ≡ user a → not u ≡ false → a < 2 ^ 47

@@ -1,8 +1,7 @@
 // Populate: faults over the pages of a range, in rising order.
 #![tactic(auto)]
 
-ghost use Rattle.std.specs.Prelude.{◌≡◌, true, ◌^◌, ◌<◌, length};
-ghost use Rattle.model.specs.declared.Done.TheVariants as done;
+ghost use Rattle.std.specs.Prelude.{◌≡◌, true, ◌^◌, ◌<◌, length, Ok};
 ghost use Rattle.model.specs.Layout.{word_count};
 ghost use Rattle.model.specs.SoundTest.{soundb};
 ghost use Rattle.model.specs.Populate.{populate_page, visit, visits};
@@ -17,7 +16,6 @@ use fault::handle_fault;
 use fault_way::well_mapped;
 use lookup::attached::region_for;
 use lookup::search::is_open;
-use model::{Done, Found};
 use paging::search::translate;
 use populate_visit::{Span, Visit, after_page, end, next_region, span_of};
 
@@ -34,14 +32,14 @@ fn populate_page(
     slot: usize,
     page: Page,
     write: bool,
-) -> Done
+) -> Result<(), Refusal>
     requires words_len { length words.old ≡ word_count }
     requires fault_fits { FaultFits words.old frames.old files.now process slot page.0 }
     ensures { DoesWith (λ s. populate_page s process slot page.0 write) words.old frames.old files.now words.new frames.new result }
 {
     let mapped = translate(&words[..], process, page);
     if well_mapped(mapped, write) {
-        return Done::Yes;
+        return Ok(());
     }
     handle_fault(words, frames, files, process, slot, page, write)
 }
@@ -61,14 +59,14 @@ fn visit_step(
     requires process_bound { process < 8 }
     requires last_bound { last.0 < 2 ^ 52 }
     requires left_nonzero { 0 < at.left }
-    requires done_value { at.done ≡ done.Yes }
+    requires done_value { at.done ≡ Ok tt }
     ensures { Stepped process last.0 write at (state_of words.old frames.old files.now) result (state_of words.new frames.new files.now) }
 {
     if last.0 < at.page.0 {
-        return end(Done::Yes);
+        return end(Ok(()));
     }
     let page = at.page;
-    let Found::At(slot) = region_for(&words[..], process, page.start_address()) else {
+    let Some(slot) = region_for(&words[..], process, page.start_address()) else {
         return next_region(&words[..], process, page, at.left);
     };
     let done = populate_page(words, frames, files, process, slot, page, write);
@@ -84,7 +82,7 @@ pub fn visit(
     first: Page,
     last: Page,
     write: bool,
-) -> Done
+) -> Result<(), Refusal>
     requires words_len { length words.old ≡ word_count }
     requires files_value { soundb (state_of words.old frames.old files.now) ≡ true }
     requires process_bound { process < 8 }
@@ -94,8 +92,9 @@ pub fn visit(
     let mut at = Visit {
         page: first,
         left: VISITS,
-        done: Done::Yes,
+        done: Ok(()),
     };
+    // a `while`: how many steps are left is a part of the walk, and the step that ends it leaves none
     while 0 < at.left {
         at = visit_step(words, frames, files, process, last, write, at);
     }
@@ -111,28 +110,24 @@ pub fn populate_core(
     addr: VirtAddr,
     len: u64,
     write: bool,
-) -> Done
+) -> Result<(), Refusal>
     requires words_len { length words.old ≡ word_count }
     requires files_value { soundb (state_of words.old frames.old files.now) ≡ true }
     ensures { DoesWith (λ s. populate s process addr.0 len write) words.old frames.old files.now words.new frames.new result }
 {
     if !is_open(&words[..], process) {
-        return Done::No(Refusal::NoProcess);
+        return Err(Refusal::NoProcess);
     }
     if !addr.is_user() {
-        return Done::No(Refusal::BadAddress);
+        return Err(Refusal::BadAddress);
     }
     match span_of(addr, len) {
-        Span::Upper => {
-            return Done::No(Refusal::BadRange);
-        }
-        Span::Nothing => {
-            return Done::Yes;
-        }
+        Span::Upper => Err(Refusal::BadRange),
+        Span::Nothing => Ok(()),
         Span::To(last) => {
             let first_page = Page::containing_address(addr);
             let last_page = Page::containing_address(last);
-            return visit(
+            visit(
                 words,
                 frames,
                 files,
@@ -140,7 +135,7 @@ pub fn populate_core(
                 first_page,
                 last_page,
                 write,
-            );
+            )
         }
     }
 }

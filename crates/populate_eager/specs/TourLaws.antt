@@ -1,16 +1,15 @@
 -- Laws: a tour of a process's regions, region by region.
-use Rattle.std.specs.Prelude.{◌≡◌, Bool, true, false, ◌&&◌, not, ℕ, ◌+◌, ◌-◌, ◌/◌, ◌^◌, ◌≤◌, ◌<◌, length, get_or, drop, eqb}
+use Rattle.std.specs.Prelude.{◌≡◌, Bool, true, false, ◌&&◌, not, ℕ, ◌+◌, ◌-◌, ◌*◌, ◌/◌, ◌^◌, ◌≤◌, ◌<◌, length, get_or, drop, eqb, Result, Ok, Err, ⊤}
 use Rattle.std.proofs.Math.Path.{refl, ap, sym}
 use Rattle.std.proofs.Common.{subst, ◌∙◌, not-suc-le-zero, arith, add-one, drop_of_length-le, drop-cons}
 use Rattle.std.proofs.Math.Bool.{cond}
 use mathlib.Core.List.{List, ◌∷◌}
 use borrow.Author.Tests.{eq-eqb, ne_eqb, eqb-true, lt-ltb, lt-leb, not-true, not-false}
 use Rattle.address.specs.Canonical.{canonical}
+use Rattle.laws.specs.ResultLaws.{err_not_ok}
 use Rattle.laws.specs.TellsLaws.{told}
 use Rattle.answers.specs.declared.Refusal.{Refusal}
 use Rattle.model.specs.declared.Region.{Region}
-use Rattle.model.specs.declared.Done.{Done}
-use Rattle.model.specs.declared.Done.TheVariants.{Yes, No}
 use Rattle.model.specs.Layout.{machine}
 use Rattle.model.specs.Machine.{State, region_at, row_of, order_of}
 use Rattle.model.specs.Lookup.{is_private}
@@ -29,8 +28,7 @@ use Rattle.rows.specs.GuardedLaws.{refused, granted}
 use Rattle.keeping.specs.OwingOfSound.{sound_owing}
 use Rattle.keeping.specs.PopulateKept.{eagerly_kept}
 use Rattle.keeping.specs.RegionsStay.{eagerly_stays}
-use Rattle.populate_eager.specs.declared.Tour.{Tour}
-use Rattle.populate_eager.specs.Tour.{tour_after, Stepped}
+use Rattle.populate_eager.specs.Tour.{Tour, tour_after, Stepped}
 
 pub eager_kind : (r : Region) → (r.kind ≡ 1 → ⊥) → false ≡ eager_region r
 eager_kind r n = rw (ne_eqb r.kind 1 n) refl
@@ -45,7 +43,7 @@ module _ (w f b : List ℕ) (sound : soundb (state_of w f b) ≡ true) (p slot :
   kept : Sound (state_of w f b)
   kept = (sound_tells (state_of w f b)).yes sound
 
-  pub slot_not : not c ≡ true → DoesWith (λ s. eagerly s p slot) w f b w f Yes
+  pub slot_not : not c ≡ true → DoesWith (λ s. eagerly s p slot) w f b w f (Ok tt)
   unfolding eagerly
   slot_not h = rw (sym (ap (λ (x : Region). eager_region x) row) ∙ sym test ∙ not-true c h) refl
 
@@ -65,7 +63,7 @@ module _ (w f b : List ℕ) (sound : soundb (state_of w f b) ≡ true) (p slot :
         rw (ne_eqb r.size 0 (λ z. omega arith), lt-leb (2 ^ 64) (r.start.0 + (r.size - 1)) (omega arith), lt-ltb (r.start.0 + (r.size - 1)) (2 ^ 47) (omega arith)) refl
 
     pub slot_visits : (first last : ℕ) (write : Bool) → first ≡ r.start.0 / 4096 → last ≡ (r.start.0 + (r.size - 1)) / 4096 → write ≡ eager_access r
-        → (w' f' : List ℕ) (d : Done) → DoesWith (λ s. visit visits s p first last write) w f b w' f' d → DoesWith (λ s. eagerly s p slot) w f b w' f' d
+        → (w' f' : List ℕ) (d : Result ⊤ Refusal) → DoesWith (λ s. visit visits s p first last write) w f b w' f' d → DoesWith (λ s. eagerly s p slot) w f b w' f' d
     unfolding eagerly core_populate
     slot_visits first last write i j a w' f' d does =
         rw (sym (ap (λ (x : Region). eager_region x) row) ∙ sym test ∙ not-false c h)
@@ -74,11 +72,11 @@ module _ (w f b : List ℕ) (sound : soundb (state_of w f b) ≡ true) (p slot :
         ∙ sym (λ q. visit visits (state_of w f b) p (i q) (j q) (a q))
         ∙ does)
 
-pub after_refused : (next left : ℕ) (d : Done) (r : Refusal) → d ≡ No r → record { next = 0; left = 0; done = No r } ≡ tour_after next left d
-after_refused next left d r e = ap (λ (y : Done). tour_after next left y) (sym e)
+pub after_refused : (next left : ℕ) (d : Result ⊤ Refusal) (r : Refusal) → d ≡ Err r → record { next = 0; left = 0; done = Err r } ≡ tour_after next left d
+after_refused next left d r e = ap (λ (y : Result ⊤ Refusal). tour_after next left y) (sym e)
 
-pub after_done : (next left : ℕ) (d : Done) → d ≡ Yes → record { next = next + 1; left = left - 1; done = Yes } ≡ tour_after next left d
-after_done next left d e = ap (λ (y : Done). tour_after next left y) (sym e)
+pub after_done : (next left : ℕ) (d : Result ⊤ Refusal) → d ≡ Ok tt → record { next = next + 1; left = left - 1; done = Ok tt } ≡ tour_after next left d
+after_done next left d e = ap (λ (y : Result ⊤ Refusal). tour_after next left y) (sym e)
 
 -- what is left of a tour of a list
 abbrev pub resume : ℕ → List ℕ → Tour → State → Try
@@ -90,10 +88,10 @@ pub record Touring (p : ℕ) (l : List ℕ) (all : Try) (at : Tour) (w f b : Lis
   pub sound : soundb (state_of w f b) ≡ true
   pub order : order_of (machine w) p ≡ l
   pub few : length l ≤ 64
-  pub counts : at.done ≡ Yes → at.next + at.left ≡ length l
-  pub goes : 0 < at.left → at.done ≡ Yes
+  pub counts : at.done ≡ Ok tt → at.next + at.left ≡ length l
+  pub goes : 0 < at.left → at.done ≡ Ok tt
 
-pub touring_first : (w f b : List ℕ) → soundb (state_of w f b) ≡ true → (p n : ℕ) → n ≡ length (order_of (machine w) p) → n ≤ 64 → Touring p (order_of (machine w) p) (core_populate_eager_copies (state_of w f b) p) (record { next = 0; left = n; done = Yes }) w f b
+pub touring_first : (w f b : List ℕ) → soundb (state_of w f b) ≡ true → (p n : ℕ) → n ≡ length (order_of (machine w) p) → n ≤ 64 → Touring p (order_of (machine w) p) (core_populate_eager_copies (state_of w f b) p) (record { next = 0; left = n; done = Ok tt }) w f b
 unfolding core_populate_eager_copies
 touring_first w f b sound p n e h = record { same = refl; sound = sound; order = refl; few = omega arith; counts = λ z. omega arith; goes = λ z. refl }
 
@@ -104,16 +102,16 @@ pub touring_done : (p : ℕ) (l : List ℕ) (all : Try) (at : Tour) (w f b : Lis
 unfolding eagerly_each
 touring_done p l all at w f b k h = sym k.same ∙ go at.done k.counts
   where
-    go : (d : Done) → (d ≡ Yes → at.next + at.left ≡ length l) → and_then (leaving d (state_of w f b)) (λ t. eagerly_each (drop at.next l) t p) ≡ leaving d (state_of w f b)
-    go Yes c = let z = c refl in let past : length l ≤ at.next = omega arith in ap (λ (x : List ℕ). eagerly_each x (state_of w f b) p) (drop_of_length-le l past)
-    go (No r) c = refl
+    go : (d : Result ⊤ Refusal) → (d ≡ Ok tt → at.next + at.left ≡ length l) → and_then (leaving d (state_of w f b)) (λ t. eagerly_each (drop at.next l) t p) ≡ leaving d (state_of w f b)
+    go (Ok tt) c = let z = c refl in let past : length l ≤ at.next = omega arith in ap (λ (x : List ℕ). eagerly_each x (state_of w f b) p) (drop_of_length-le l past)
+    go (Err r) c = refl
 
 pub touring_less : (p : ℕ) (at : Tour) (w f b : List ℕ) (r : Tour) (w' f' : List ℕ) → Stepped p at w f b r w' f' → 0 < at.left → r.left < at.left
 touring_less p at w f b r w' f' k h = subst (λ (v : Tour). v.left < at.left) (sym k.next) (go k.done)
   where
-    go : (d : Done) → (tour_after at.next at.left d).left < at.left
-    go Yes = omega arith
-    go (No q) = h
+    go : (d : Result ⊤ Refusal) → (tour_after at.next at.left d).left < at.left
+    go (Ok tt) = omega arith
+    go (Err q) = h
 
 module _ (p : ℕ) (l : List ℕ) (all : Try) (at : Tour) (w f b : List ℕ) (k : Touring p l all at w f b) (some : 0 < at.left) (r : Tour) (w' f' : List ℕ) (g : Stepped p at w f b r w' f') where
   abbrev s : State
@@ -141,12 +139,12 @@ module _ (p : ℕ) (l : List ℕ) (all : Try) (at : Tour) (w f b : List ℕ) (k 
       ∙ go g.done
       ∙ sym (ap (λ (y : Try). and_then y (λ t. eagerly_each (drop (at.next + 1) l) t p)) g.does)
       ∙ sym (ap (λ (x : List ℕ). eagerly_each x s p) list_is)
-      ∙ ap (λ (d : Done). and_then (leaving d s) (λ t. eagerly_each (drop at.next l) t p)) (sym (k.goes some))
+      ∙ ap (λ (d : Result ⊤ Refusal). and_then (leaving d s) (λ t. eagerly_each (drop at.next l) t p)) (sym (k.goes some))
       ∙ k.same
     where
-      go : (d : Done) → resume p l (tour_after at.next at.left d) (state_of w' f' b) ≡ and_then (leaving d (state_of w' f' b)) (λ t. eagerly_each (drop (at.next + 1) l) t p)
-      go Yes = refl
-      go (No q) = refl
+      go : (d : Result ⊤ Refusal) → resume p l (tour_after at.next at.left d) (state_of w' f' b) ≡ and_then (leaving d (state_of w' f' b)) (λ t. eagerly_each (drop (at.next + 1) l) t p)
+      go (Ok tt) = refl
+      go (Err q) = refl
 
   pub touring_more : Touring p l all r w' f' b
   touring_more =
@@ -155,28 +153,45 @@ module _ (p : ℕ) (l : List ℕ) (all : Try) (at : Tour) (w f b : List ℕ) (k 
         sound = told (sound_tells (state_of w' f' b)) (subst (λ (y : Try). Sound y.state) g.does (eagerly_kept s ((sound_tells s).yes k.sound) p g.slot));
         order = sym (ap (λ (y : Try). order_of y.state.machine p) g.does) ∙ (eagerly_stays s p g.slot).order p ∙ k.order;
         few = k.few;
-        counts = subst (λ (v : Tour). v.done ≡ Yes → v.next + v.left ≡ length l) (sym g.next) (counted g.done);
-        goes = subst (λ (v : Tour). 0 < v.left → v.done ≡ Yes) (sym g.next) (going g.done);
+        counts = subst (λ (v : Tour). v.done ≡ Ok tt → v.next + v.left ≡ length l) (sym g.next) (counted g.done);
+        goes = subst (λ (v : Tour). 0 < v.left → v.done ≡ Ok tt) (sym g.next) (going g.done);
       }
     where
-      counted : (d : Done) → (tour_after at.next at.left d).done ≡ Yes → (tour_after at.next at.left d).next + (tour_after at.next at.left d).left ≡ length l
-      counted Yes z = let c = k.counts (k.goes some) in omega arith
-      counted (No q) z = absurd (never z)
-        where
-          never : {q : Refusal} → No q ≡ Yes → ⊥
-          never {q} e = let z : ◌≡◌ {A = ℕ} 0 1 = cc in omega arith
+      counted : (d : Result ⊤ Refusal) → (tour_after at.next at.left d).done ≡ Ok tt → (tour_after at.next at.left d).next + (tour_after at.next at.left d).left ≡ length l
+      counted (Ok tt) z = let c = k.counts (k.goes some) in omega arith
+      counted (Err q) z = absurd (err_not_ok z)
 
-      going : (d : Done) → 0 < (tour_after at.next at.left d).left → (tour_after at.next at.left d).done ≡ Yes
-      going Yes z = refl
-      going (No q) z = absurd (not-suc-le-zero z)
+      going : (d : Result ⊤ Refusal) → 0 < (tour_after at.next at.left d).left → (tour_after at.next at.left d).done ≡ Ok tt
+      going (Ok tt) z = refl
+      going (Err q) z = absurd (not-suc-le-zero z)
+
+-- ---- a list gone through place by place
+
+module _ (p : ℕ) (l : List ℕ) (all : Try) (i n : ℕ) (w f b : List ℕ) (k : Touring p l all (record { next = i; left = n - i; done = Ok tt }) w f b) (some : i < n) (slot : ℕ) (here : slot ≡ get_or (machine w).order (p * 64 + i) 0) (d : Result ⊤ Refusal) (w' f' : List ℕ) (does : eagerly (state_of w f b) p slot ≡ leaving d (state_of w' f' b)) where
+  abbrev at : Tour
+  at = record { next = i; left = n - i; done = Ok tt }
+
+  stepped : Stepped p at w f b (tour_after i (n - i) d) w' f'
+  stepped = record { slot = slot; here = here; done = d; does = does; next = refl }
+
+  stepped_on : Touring p l all (tour_after i (n - i) d) w' f' b
+  stepped_on = touring_more p l all at w f b k (omega arith) (tour_after i (n - i) d) w' f' stepped
+
+  pub touring_next : d ≡ Ok tt → Touring p l all (record { next = i + 1; left = n - (i + 1); done = Ok tt }) w' f' b
+  touring_next e =
+      let less : n - i - 1 ≡ n - (i + 1) = omega arith in
+      subst (λ (x : ℕ). Touring p l all (record { next = i + 1; left = x; done = Ok tt }) w' f' b) less (subst (λ (y : Result ⊤ Refusal). Touring p l all (tour_after i (n - i) y) w' f' b) e stepped_on)
+
+  pub touring_ends : (r : Refusal) → d ≡ Err r → all ≡ leaving (Err r) (state_of w' f' b)
+  touring_ends r e = touring_done p l all (record { next = 0; left = 0; done = Err r }) w' f' b (subst (λ (y : Result ⊤ Refusal). Touring p l all (tour_after i (n - i) y) w' f' b) e stepped_on) (omega arith)
 
 -- ---- the call
 
 module _ (w f b : List ℕ) (sound : soundb (state_of w f b) ≡ true) (p : ℕ) where
-  pub eager_refused : (r : Refusal) → No r ≡ first_of (process_refusals (words_alone w) p) → DoesWith (λ s. eager s p) w f b w f (No r)
+  pub eager_refused : (r : Refusal) → Err r ≡ first_of (process_refusals (words_alone w) p) → DoesWith (λ s. eager s p) w f b w f (Err r)
   unfolding eager process_refusals
-  eager_refused r e = refused (state_of w f b) (λ (q : Refusal). No q) _ _ sound r e
+  eager_refused r e = refused (state_of w f b) (λ (q : Refusal). Err q) _ _ sound r e
 
-  pub eager_done : Yes ≡ first_of (process_refusals (words_alone w) p) → (w' f' : List ℕ) (d : Done) → DoesWith (λ s. core_populate_eager_copies s p) w f b w' f' d → DoesWith (λ s. eager s p) w f b w' f' d
+  pub eager_done : Ok tt ≡ first_of (process_refusals (words_alone w) p) → (w' f' : List ℕ) (d : Result ⊤ Refusal) → DoesWith (λ s. core_populate_eager_copies s p) w f b w' f' d → DoesWith (λ s. eager s p) w f b w' f' d
   unfolding eager process_refusals
-  eager_done e w' f' d k = granted (state_of w f b) (λ (q : Refusal). No q) _ _ sound e ∙ k
+  eager_done e w' f' d k = granted (state_of w f b) (λ (q : Refusal). Err q) _ _ sound e ∙ k

@@ -8,8 +8,9 @@ ghost use Rattle.model.specs.Populate.{lower, next_start};
 ghost use Rattle.populate_visit.specs.PageWalk.{span_of, gap_visit, page_visit, ended};
 
 use address::{Page, VirtAddr};
+use answers::Refusal;
 use lookup::attached::attached_count;
-use model::{Done, Found, SLOTS};
+use model::SLOTS;
 use regions::slot::region_in;
 use rows::slots::order_at;
 
@@ -26,7 +27,7 @@ pub enum Span {
 pub struct Visit {
     pub page: Page,
     pub left: u64,
-    pub done: Done,
+    pub done: Result<(), Refusal>,
 }
 
 // The range of `len` bytes from a user address on.
@@ -51,23 +52,26 @@ pub fn span_of(addr: VirtAddr, len: u64) -> Span
 }
 
 // The lower of two pages that are above a page.
-fn nearer(page: Page, start: Page, later: Found) -> Found
+fn nearer(page: Page, start: Page, later: Option<usize>) -> Option<usize>
     ensures { result ≡ lower page.0 start.0 later }
 {
     if start.0 <= page.0 {
         return later;
     }
-    let Found::At(other) = later else {
-        return Found::At(start.0 as usize);
-    };
-    if start.0 < other as u64 {
-        return Found::At(start.0 as usize);
+    match later {
+        Some(other) => Some(other.min(start.0 as usize)),
+        None => Some(start.0 as usize),
     }
-    later
 }
 
 // The lower of the first page of the region at place i of the list and one found after it.
-fn nearer_at(words: &[u64], process: usize, page: Page, i: usize, later: Found) -> Found
+fn nearer_at(
+    words: &[u64],
+    process: usize,
+    page: Page,
+    i: usize,
+    later: Option<usize>,
+) -> Option<usize>
     requires words_len { length words.now ≡ word_count }
     requires process_bound { process < 8 }
     requires i_bound { i < 64 }
@@ -79,28 +83,27 @@ fn nearer_at(words: &[u64], process: usize, page: Page, i: usize, later: Found) 
 }
 
 // The next page above a page at which an attached region starts.
-fn next_start(words: &[u64], process: usize, page: Page) -> Found
+fn next_start(words: &[u64], process: usize, page: Page) -> Option<usize>
     requires words_len { length words.now ≡ word_count }
     requires process_bound { process < 8 }
     ensures { result ≡ next_start (machine words.now) process page.0 }
 {
-    let mut found = Found::Nothing;
-    let mut i = attached_count(words, process);
-    while 0 < i {
-        i -= 1;
+    let count = attached_count(words, process);
+    let mut found = None;
+    for i in (0..count).rev() {
         found = nearer_at(words, process, page, i, found);
     }
     found
 }
 
 // A walk that has ended.
-pub fn end(done: Done) -> Visit
+pub fn end(done: Result<(), Refusal>) -> Visit
     ensures { result ≡ ended done }
 {
     Visit {
         page: Page(0),
         left: 0,
-        done: done,
+        done,
     }
 }
 
@@ -111,32 +114,28 @@ pub fn next_region(words: &[u64], process: usize, page: Page, left: u64) -> Visi
     requires left_nonzero { 0 < left }
     ensures { result ≡ gap_visit left (next_start (machine words.now) process page.0) }
 {
-    let Found::At(next) = next_start(words, process, page) else {
-        return end(Done::Yes);
+    let Some(next) = next_start(words, process, page) else {
+        return end(Ok(()));
     };
     Visit {
         page: Page(next as u64),
         left: left - 1,
-        done: Done::Yes,
+        done: Ok(()),
     }
 }
 
 // How a walk goes on from a page that was visited: a refusal ends it.
-pub fn after_page(page: Page, left: u64, done: Done) -> Visit
+pub fn after_page(page: Page, left: u64, done: Result<(), Refusal>) -> Visit
     requires page_bound { page.0 < 2 ^ 52 }
     requires left_nonzero { 0 < left }
     ensures { result ≡ page_visit page.0 left done }
 {
     match done {
-        Done::No(refusal) => {
-            return end(Done::No(refusal));
-        }
-        Done::Yes => {
-            return Visit {
-                page: Page(page.0 + 1),
-                left: left - 1,
-                done: Done::Yes,
-            };
-        }
+        Err(refusal) => end(Err(refusal)),
+        Ok(()) => Visit {
+            page: Page(page.0 + 1),
+            left: left - 1,
+            done: Ok(()),
+        },
     }
 }

@@ -1,9 +1,8 @@
 -- The call that closes a process, way by way: no such process, a pin that stands, closed.
-use Rattle.std.specs.Prelude.{◌≡◌, true, false, List, ℕ}
+use Rattle.std.specs.Prelude.{◌≡◌, true, false, List, ℕ, Ok, Err}
 use Rattle.std.proofs.Math.Path.{ap}
 use Rattle.std.proofs.Common.{sym, ◌∙◌}
 use Rattle.answers.specs.declared.Refusal.TheVariants.{NoProcess, InUse}
-use Rattle.model.specs.declared.Done.TheVariants.{Yes, No}
 use Rattle.model.specs.Machine.{Machine, with_machine}
 use Rattle.model.specs.Layout.{machine}
 use Rattle.model.specs.Lookup.{is_open}
@@ -19,17 +18,17 @@ use Rattle.remove.specs.ClearedLaws.{sound_clearable}
 use Rattle.remove.specs.Cleared.{Closed}
 
 module _ (w : List ℕ) (p : ℕ) where
-  pub close_missing : is_open (machine w) p ≡ false → DoesWords (λ s. close s p) w w (No NoProcess)
+  pub close_missing : is_open (machine w) p ≡ false → DoesWords (λ s. close s p) w w (Err NoProcess)
   unfolding close close_refusals
-  close_missing o frames files sound = refused (state_of w frames files) No _ _ sound NoProcess (first_here _ NoProcess _ (not_no _ o))
+  close_missing o frames files sound = refused (state_of w frames files) Err _ _ sound NoProcess (first_here _ NoProcess _ (not_no _ o))
 
   module _ (o : is_open (machine w) p ≡ true) where
-    pub close_pinned : pin_stands (machine w) p ≡ true → DoesWords (λ s. close s p) w w (No InUse)
+    pub close_pinned : pin_stands (machine w) p ≡ true → DoesWords (λ s. close s p) w w (Err InUse)
     unfolding close close_refusals
-    close_pinned q frames files sound = refused (state_of w frames files) No _ _ sound InUse (first_later _ NoProcess _ _ (not_yes _ o) (first_here _ InUse _ q))
+    close_pinned q frames files sound = refused (state_of w frames files) Err _ _ sound InUse (first_later _ NoProcess _ _ (not_yes _ o) (first_here _ InUse _ q))
 
-    pub close_done : pin_stands (machine w) p ≡ false → (v : List ℕ) → Closed (machine w) p (machine v) → DoesWords (λ s. close s p) w v Yes
+    pub close_done : pin_stands (machine w) p ≡ false → (v : List ℕ) → Closed (machine w) p (machine v) → DoesWords (λ s. close s p) w v (Ok tt)
     unfolding close close_refusals
     close_done q v closed frames files sound =
-        granted (state_of w frames files) No _ (fine (with_machine (state_of w frames files) (close_process (machine w) p))) sound (first_later _ NoProcess _ _ (not_yes _ o) (first_later _ InUse _ _ q first_none))
+        granted (state_of w frames files) Err _ (fine (with_machine (state_of w frames files) (close_process (machine w) p))) sound (first_later _ NoProcess _ _ (not_yes _ o) (first_later _ InUse _ _ q first_none))
         ∙ ap (λ (x : Machine). fine (with_machine (state_of w frames files) x)) (sym (closed (sound_clearable (state_of w frames files) p ((sound_tells _).yes sound) (open_small w p o))))

@@ -1,5 +1,5 @@
 -- Laws of `Opening`: opening a process, way by way.
-use Rattle.std.specs.Prelude.{◌≡◌, refl, Bool, true, false, List, ℕ, ◌+◌, ◌-◌, ◌≤◌, ◌<◌, set, ltb}
+use Rattle.std.specs.Prelude.{◌≡◌, refl, Bool, true, false, List, ℕ, ◌+◌, ◌-◌, ◌≤◌, ◌<◌, set, ltb, Option, Some, None, Ok, Err}
 use Rattle.std.proofs.Math.Path.{ap}
 use Rattle.std.proofs.Common.{sym, ◌∙◌, arith, ltb-true, ltb-false, lt-ltb, le-ltb}
 use Rattle.std.proofs.Math.Bool.{not}
@@ -7,10 +7,6 @@ use Rattle.answers.specs.declared.Refusal.{Refusal}
 use Rattle.answers.specs.declared.Refusal.TheVariants.{BadAddress, BadRange, TableFull}
 use Rattle.address.specs.Canonical.{user}
 use Rattle.address.specs.Pages.{aligned}
-use Rattle.model.specs.declared.Found.{Found}
-use Rattle.model.specs.declared.Found.TheVariants.{At, Nothing}
-use Rattle.model.specs.declared.Done.TheVariants.{No}
-use Rattle.model.specs.declared.Opened.TheVariants as opened
 use Rattle.model.specs.Machine.{Machine, no_process, user_end, with_processes}
 use Rattle.model.specs.Layout.{machine}
 use Rattle.model.specs.Lookup.{is_found, row_found}
@@ -47,31 +43,31 @@ module _ (a size : ℕ) where
 
 -- ---- the tests, one by one
 
-pub closed_small : (w : List ℕ) (i : ℕ) → At i ≡ closed_row (machine w) → i < 8
+pub closed_small : (w : List ℕ) (i : ℕ) → Some i ≡ closed_row (machine w) → i < 8
 closed_small w i e = let found = (first_found closed (machine w).processes i no_process (sym e)).0 in let sized = processes_length w in omega arith
 
 module _ (w : List ℕ) (a size : ℕ) where
-  open_refused : (r : Refusal) → No r ≡ first_of (open_refusals (words_alone w) a size) → DoesWords (λ s. open_process s a size) w w (opened.No r)
+  open_refused : (r : Refusal) → Err r ≡ first_of (open_refusals (words_alone w) a size) → DoesWords (λ s. open_process s a size) w w (Err r)
   unfolding open_process open_refusals
-  open_refused r e f b s = refused (state_of w f b) opened.No _ _ s r e
+  open_refused r e f b s = refused (state_of w f b) Err _ _ s r e
 
-  pub open_address : user a ≡ false → DoesWords (λ s. open_process s a size) w w (opened.No BadAddress)
+  pub open_address : user a ≡ false → DoesWords (λ s. open_process s a size) w w (Err BadAddress)
   unfolding open_refusals
   open_address u = open_refused BadAddress (first_here _ BadAddress _ (not_no _ u))
 
   module _ (u : user a ≡ true) where
-    pub open_arena : bad_arena a size ≡ true → DoesWords (λ s. open_process s a size) w w (opened.No BadRange)
+    pub open_arena : bad_arena a size ≡ true → DoesWords (λ s. open_process s a size) w w (Err BadRange)
     unfolding open_refusals
     open_arena g = open_refused BadRange (first_later _ BadAddress _ _ (not_yes _ u) (first_here _ BadRange _ g))
 
     module _ (g : bad_arena a size ≡ false) where
-      pub open_full : Nothing ≡ closed_row (machine w) → DoesWords (λ s. open_process s a size) w w (opened.No TableFull)
+      pub open_full : None ≡ closed_row (machine w) → DoesWords (λ s. open_process s a size) w w (Err TableFull)
       unfolding open_refusals
       open_full n = open_refused TableFull (first_later _ BadAddress _ _ (not_yes _ u) (first_later _ BadRange _ _ g (first_here _ TableFull _ (ap (λ x. not (is_found x)) (sym n)))))
 
-      pub open_done : (i : ℕ) → At i ≡ closed_row (machine w) → (v : List ℕ) → machine v ≡ with_processes (machine w) (set (machine w).processes i (opened_row a size)) → DoesWords (λ s. open_process s a size) w v (opened.Process i)
+      pub open_done : (i : ℕ) → Some i ≡ closed_row (machine w) → (v : List ℕ) → machine v ≡ with_processes (machine w) (set (machine w).processes i (opened_row a size)) → DoesWords (λ s. open_process s a size) w v (Ok i)
       unfolding open_process open_refusals core_open
       open_done i n v put f b s =
-          granted (state_of w f b) opened.No _ _ s (first_later _ BadAddress _ _ (not_yes _ u) (first_later _ BadRange _ _ g (first_later _ TableFull _ _ (ap (λ x. not (is_found x)) (sym n)) first_none)))
-          ∙ ap (λ (j : ℕ). leaving (opened.Process j) (record { machine = with_processes (machine w) (set (machine w).processes j (opened_row a size)); frames = f; bytes = b })) (sym (ap (λ (x : Found). row_found x) n))
-          ∙ ap (λ (m : Machine). leaving (opened.Process i) (record { machine = m; frames = f; bytes = b })) (sym put)
+          granted (state_of w f b) Err _ _ s (first_later _ BadAddress _ _ (not_yes _ u) (first_later _ BadRange _ _ g (first_later _ TableFull _ _ (ap (λ x. not (is_found x)) (sym n)) first_none)))
+          ∙ ap (λ (j : ℕ). leaving (Ok j) (record { machine = with_processes (machine w) (set (machine w).processes j (opened_row a size)); frames = f; bytes = b })) (sym (ap (λ (x : Option ℕ). row_found x) n))
+          ∙ ap (λ (m : Machine). leaving (Ok i) (record { machine = m; frames = f; bytes = b })) (sym put)

@@ -1,10 +1,8 @@
 -- The public call start: files lent as words, and the lengths that do not fit.
-use Rattle.std.specs.Prelude.{◌≡◌, Bool, not, ◌&&◌, ◌||◌, cond, List, ℕ, ◌+◌, ◌*◌, ◌/◌, ◌%◌, length, get_or, eqb, ltb}
+use Rattle.std.specs.Prelude.{◌≡◌, Bool, not, ◌&&◌, ◌||◌, cond, List, ℕ, ◌+◌, ◌*◌, ◌/◌, ◌%◌, length, get_or, eqb, ltb, Result, Err, ⊤}
 use Rattle.answers.specs.declared.Refusal.{Refusal}
 use Rattle.answers.specs.declared.Refusal.TheVariants.{BadTable}
 use Rattle.model.specs.declared.File.{File}
-use Rattle.model.specs.declared.Done.{Done}
-use Rattle.model.specs.declared.Done.TheVariants.{No}
 use Rattle.laws.specs.Lists.{all}
 use Rattle.laws.specs.Rows.{rows}
 use Rattle.model.specs.Layout.{word_count}
@@ -28,8 +26,8 @@ unfoldable pub start_call : (words frames bytes files : List ℕ) → Try
 start_call words frames bytes files = cond (lengths_fit words files) (calls.start (state_of words frames bytes) (files_of files)) (refuse BadTable (state_of words frames bytes))
 
 -- what start answers and leaves; where it refuses every word stays, of words of another number too
-abbrev pub Starts : (words frames bytes files words' : List ℕ) → Done → Type 0
-Starts words frames bytes files words' r = (start_call words frames bytes files ≡ leaving r (state_of words' frames bytes)) × ((q : Refusal) → r ≡ No q → words' ≡ words)
+abbrev pub Starts : (words frames bytes files words' : List ℕ) → Result ⊤ Refusal → Type 0
+Starts words frames bytes files words' r = (start_call words frames bytes files ≡ leaving r (state_of words' frames bytes)) × ((q : Refusal) → r ≡ Err q → words' ≡ words)
 
 -- ---- the tests, over the lengths alone
 

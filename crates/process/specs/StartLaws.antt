@@ -1,5 +1,5 @@
 -- Start, step by step: the lengths, the words all 0 read as tables, the files put, the empty machine.
-use Rattle.std.specs.Prelude.{◌≡◌, ◌≢◌, Bool, true, false, ◌&&◌, ◌||◌, ℕ, suc, ◌+◌, ◌*◌, ◌/◌, ◌%◌, ◌≤◌, ◌<◌, get_or, set, take, drop, replicate, ltb}
+use Rattle.std.specs.Prelude.{◌≡◌, ◌≢◌, Bool, true, false, ◌&&◌, ◌||◌, ℕ, suc, ◌+◌, ◌*◌, ◌/◌, ◌%◌, ◌≤◌, ◌<◌, get_or, set, take, drop, replicate, ltb, Ok, Err}
 use Rattle.std.proofs.Math.Path.{refl, ap}
 use Rattle.std.proofs.Common.{sym, ◌∙◌, not-suc-le-zero, add-one, arith, length-set, get_or-set_same, get_or-set_other, eq-eqb, ne_eqb, lt-ltb, le-ltb, ltb-true, ltb-false}
 use Rattle.std.proofs.Math.Bool.{not, cond}
@@ -9,12 +9,12 @@ use Rattle.std.proofs.Math.ListN.{length, get_or-eq_default}
 use Rattle.std.proofs.Math.Seq.{paste, paste-zero, paste-suc, take-length}
 use Rattle.std.proofs.Math.Dec.{eqb}
 use Rattle.std.proofs.lemmas.Bool.{not-false}
+use Rattle.laws.specs.ResultLaws.{ok_not_err}
 use Rattle.laws.specs.BoolLaws.{or_none}
 use Rattle.answers.specs.declared.Refusal.{Refusal}
 use Rattle.answers.specs.declared.Refusal.TheVariants.{BadTable}
 use Rattle.model.specs.declared.File.{File}
 use Rattle.model.specs.declared.Pool.{Pool}
-use Rattle.model.specs.declared.Done.TheVariants.{Yes, No}
 use Rattle.laws.specs.Lists.{all, pad}
 use Rattle.laws.specs.Rows.{rows}
 use Rattle.laws.specs.RowsLaws.{rows_length, rows_at, same_rows}
@@ -27,7 +27,6 @@ use Rattle.rows.specs.FileRow.{is_lent}
 use Rattle.rows.specs.LentMemory.{state_of}
 use Rattle.lookup.specs.LookupsLaws.{files_length}
 use Rattle.rows.specs.With.{with_files, with_frame_count, with_file_count}
-use Rattle.lookup.specs.FirstOfLaws.{no_refusal}
 use Rattle.process.specs.Start.{file_in, files_of, start_call, Starts, unfit, bad_sizes, Zeros}
 use Rattle.laws.specs.ListsLaws.{fill_pad}
 
@@ -179,7 +178,7 @@ module _ (w frames bytes l : List ℕ) where
   abbrev s : State
   s = state_of w frames bytes
 
-  pub other_words : length w ≢ word_count → Starts w frames bytes l w (No BadTable)
+  pub other_words : length w ≢ word_count → Starts w frames bytes l w (Err BadTable)
   unfolding start_call
   other_words h = (rw (ne_eqb (length w) word_count h) refl, λ q e. refl)
 
@@ -188,26 +187,26 @@ module _ (w frames bytes l : List ℕ) where
   unfolding bad_lengths
   unfit_lengths = ap (λ (n : ℕ). not (eqb (length frames % 4096) 0) || (ltb 256 (length frames / 4096) || (ltb 8 n || not (all (is_lent (length bytes)) (files_of l))))) (files_number l)
 
-  started : (b : Bool) → unfit l (length frames) (length bytes) ≡ b → calls.start s (files_of l) ≡ calls.decided (cond b (No BadTable) Yes) (λ (r : Refusal). No r) s (fine (with_machine s (empty_machine (length frames / 4096) (files_of l))))
+  started : (b : Bool) → unfit l (length frames) (length bytes) ≡ b → calls.start s (files_of l) ≡ calls.decided (cond b (Err BadTable) (Ok tt)) (λ (r : Refusal). Err r) s (fine (with_machine s (empty_machine (length frames / 4096) (files_of l))))
   unfolding calls.start start_refusals first_of
-  started b e = ap (λ (x : Bool). calls.decided (cond x (No BadTable) Yes) (λ (r : Refusal). No r) s (fine (with_machine s (empty_machine (length frames / 4096) (files_of l))))) (unfit_lengths ∙ e)
+  started b e = ap (λ (x : Bool). calls.decided (cond x (Err BadTable) (Ok tt)) (λ (r : Refusal). Err r) s (fine (with_machine s (empty_machine (length frames / 4096) (files_of l))))) (unfit_lengths ∙ e)
 
   module _ (sized : length w ≡ word_count) where
     whole : (b : Bool) → eqb (length l % 3) 0 ≡ b → start_call w frames bytes l ≡ cond b (calls.start s (files_of l)) (refuse BadTable s)
     unfolding start_call
     whole b e = ap (λ (x : Bool). cond (x && eqb (length l % 3) 0) (calls.start s (files_of l)) (refuse BadTable s)) (eq-eqb (length w) word_count sized) ∙ ap (λ (x : Bool). cond x (calls.start s (files_of l)) (refuse BadTable s)) e
 
-    pub bad_start : bad_sizes l (length frames) (length bytes) ≡ true → Starts w frames bytes l w (No BadTable)
+    pub bad_start : bad_sizes l (length frames) (length bytes) ≡ true → Starts w frames bytes l w (Err BadTable)
     bad_start b = (go (eqb (length l % 3) 0) refl b, λ q e. refl)
       where
-        go : (t : Bool) → eqb (length l % 3) 0 ≡ t → (not t || unfit l (length frames) (length bytes)) ≡ true → start_call w frames bytes l ≡ leaving (No BadTable) s
+        go : (t : Bool) → eqb (length l % 3) 0 ≡ t → (not t || unfit l (length frames) (length bytes)) ≡ true → start_call w frames bytes l ≡ leaving (Err BadTable) s
         go true e f = whole true e ∙ started true f
         go false e f = whole false e
 
-    pub good_start : bad_sizes l (length frames) (length bytes) ≡ false → (v : List ℕ) → machine v ≡ empty_machine (length frames / 4096) (files_of l) → Starts w frames bytes l v Yes
+    pub good_start : bad_sizes l (length frames) (length bytes) ≡ false → (v : List ℕ) → machine v ≡ empty_machine (length frames / 4096) (files_of l) → Starts w frames bytes l v (Ok tt)
     good_start b v put =
         let fits = or_none _ _ b in
-        (whole true (not-false _ fits.0) ∙ started false fits.1 ∙ ap (λ (m : Machine). fine (with_machine s m)) (sym put), λ q e. absurd (no_refusal e))
+        (whole true (not-false _ fits.0) ∙ started false fits.1 ∙ ap (λ (m : Machine). fine (with_machine s m)) (sym put), λ q e. absurd (ok_not_err e))
 
   -- files that fit are at most 8
   pub few_files : bad_sizes l (length frames) (length bytes) ≡ false → length l / 3 ≤ 8

@@ -10,7 +10,7 @@ ghost use Rattle.remove.specs.Cleared.{Closed};
 use address::VirtAddr;
 use answers::Refusal;
 use lookup::search::is_open;
-use model::{Done, Process, SLOTS};
+use model::{Process, SLOTS};
 use remove::clear::clear;
 use rows::processes::put_process;
 use rows::slots::region_at;
@@ -34,13 +34,11 @@ pub fn pin_stands(words: &[u64], process: usize) -> bool
     requires process_bound { process < 8 }
     ensures { result ≡ pin_stands (machine words.now) process }
 {
-    let mut i = 0;
-    while i < SLOTS {
+    for i in 0..SLOTS {
         let region = region_at(words, process * SLOTS + i);
         if 0 < region.pins {
             return true;
         }
-        i += 1;
     }
     false
 }
@@ -56,16 +54,16 @@ pub fn close(words: &mut [u64], process: usize)
 }
 
 // Closes a process: the core of the call.
-pub fn close_core(words: &mut [u64], process: u64) -> Done
+pub fn close_core(words: &mut [u64], process: u64) -> Result<(), Refusal>
     requires { length words.old ≡ word_count }
     ensures { DoesWords (λ s. calls.close s process) words.old words.new result }
 {
     if !is_open(&words[..], process) {
-        return Done::No(Refusal::NoProcess);
+        return Err(Refusal::NoProcess);
     }
     if pin_stands(&words[..], process as usize) {
-        return Done::No(Refusal::InUse);
+        return Err(Refusal::InUse);
     }
     close(words, process as usize);
-    Done::Yes
+    Ok(())
 }

@@ -9,19 +9,19 @@ ghost use Rattle.process.specs.Opening.{bad_arena};
 use address::{PAGE_SIZE, USER_END, VirtAddr};
 use answers::Refusal;
 use lookup::search::closed_process;
-use model::{Found, Opened, Process};
+use model::Process;
 use rows::processes::put_process;
 
 // Puts the row of an open process with nothing in its lists.
-fn open_row(words: &mut [u64], process: usize, start: u64, size: u64)
+fn open_row(words: &mut [u64], process: usize, start: VirtAddr, size: u64)
     requires words_len { length words.old ≡ word_count }
     requires process_bound { process < 8 }
-    ensures { machine words.new ≡ with_processes (machine words.old) (set (machine words.old).processes process (opened_row start size)) }
+    ensures { machine words.new ≡ with_processes (machine words.old) (set (machine words.old).processes process (opened_row start.0 size)) }
 {
     let row = Process {
         opened: 1,
-        start: VirtAddr(start),
-        size: size,
+        start,
+        size,
         attached: 0,
         mapped: 0,
     };
@@ -45,19 +45,17 @@ fn is_bad_arena(start: VirtAddr, size: u64) -> bool
 }
 
 // Opens the lowest closed process, of a sound machine.
-pub fn open_core(words: &mut [u64], start: VirtAddr, size: u64) -> Opened
+pub fn open_core(words: &mut [u64], start: VirtAddr, size: u64) -> Result<u64, Refusal>
     requires { length words.old ≡ word_count }
     ensures { DoesWords (λ s. open_process s start.0 size) words.old words.new result }
 {
     if !start.is_user() {
-        return Opened::No(Refusal::BadAddress);
+        return Err(Refusal::BadAddress);
     }
     if is_bad_arena(start, size) {
-        return Opened::No(Refusal::BadRange);
+        return Err(Refusal::BadRange);
     }
-    let Found::At(process) = closed_process(&words[..]) else {
-        return Opened::No(Refusal::TableFull);
-    };
-    open_row(words, process, start.0, size);
-    Opened::Process(process as u64)
+    let process = closed_process(&words[..]).ok_or(Refusal::TableFull)?;
+    open_row(words, process, start, size);
+    Ok(process as u64)
 }

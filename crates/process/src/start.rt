@@ -10,7 +10,7 @@ ghost use Rattle.process.specs.Start.{file_in, files_of, bad_sizes, Zeros, Start
 
 use address::PhysFrame;
 use answers::Refusal;
-use model::{Done, FILES, FRAME_BYTES, FRAMES, File, Pool};
+use model::{FILES, FRAME_BYTES, FRAMES, File, Pool};
 use rows::WORD_COUNT;
 use rows::backings::{put_frame_count, put_pool};
 use rows::files::{is_lent, put_file, put_file_count};
@@ -32,13 +32,11 @@ fn files_fit(rows: &[u64], bytes: usize) -> bool
     ensures { result ≡ all (is_lent bytes) (files_of rows.now) }
 {
     let n = rows.len() / 3;
-    let mut i = 0;
-    while i < n {
+    for i in 0..n {
         let file = file_in(rows, i);
         if !is_lent(file, bytes) {
             return false;
         }
-        i += 1;
     }
     true
 }
@@ -67,10 +65,8 @@ fn zero_words(words: &mut [u64])
     requires { length words.old ≡ word_count }
     ensures { Zeros words.new }
 {
-    let mut i = 0;
-    while i < WORD_COUNT {
+    for i in 0..WORD_COUNT {
         words[i] = 0;
-        i += 1;
     }
 }
 
@@ -81,11 +77,9 @@ fn put_files(words: &mut [u64], rows: &[u64])
     ensures { machine words.new ≡ with_files (machine words.old) (paste (machine words.old).files 0 (files_of rows.now) (length rows.now / 3)) }
 {
     let n = rows.len() / 3;
-    let mut i = 0;
-    while i < n {
+    for i in 0..n {
         let file = file_in(rows, i);
         put_file(words, i, file);
-        i += 1;
     }
 }
 
@@ -107,15 +101,15 @@ fn put_empty(words: &mut [u64], frames: usize, rows: &[u64])
 }
 
 // Begins anew with lent frames and files; `rows` lists the files, three words a file: readable, offset, length.
-pub fn start(words: &mut [u64], frames: &[u8], files: &[u8], rows: &[u64]) -> Done
+pub fn start(words: &mut [u64], frames: &[u8], files: &[u8], rows: &[u64]) -> Result<(), Refusal>
     ensures { Starts words.old frames.now files.now rows.now words.new result }
 {
     if words.len() != WORD_COUNT {
-        return Done::No(Refusal::BadTable);
+        return Err(Refusal::BadTable);
     }
     if is_bad_size(rows, frames.len(), files.len()) {
-        return Done::No(Refusal::BadTable);
+        return Err(Refusal::BadTable);
     }
     put_empty(words, frames.len() / FRAME_BYTES, rows);
-    Done::Yes
+    Ok(())
 }

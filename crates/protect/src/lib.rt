@@ -12,13 +12,12 @@ ghost use Rattle.remap.specs.Remapped.{remapped};
 ghost use Rattle.protect.specs.Protects.{RangeFits, protected_in, Protected};
 ghost use Rattle.protect.specs.ProtectCall.{protect_by};
 
-use address::{CheckedFlags, Page, PageTableFlags, VirtAddr};
+use address::{Page, PageTableFlags, VirtAddr};
 use answers::Refusal;
 use lookup::attached::region_for;
 use lookup::backed::backing_of;
-use lookup::named::Named;
 use lookup::search::is_open;
-use model::{Backed, Done, Found, Region, SHARED, SLOTS};
+use model::{Backed, Region, SHARED, SLOTS};
 use paging::mappings::put_row;
 use paging::search::{mapped_count, row_at};
 use regions::slot::region_in;
@@ -89,10 +88,8 @@ fn protect_rows(words: &mut [u64], process: usize, slot: usize, flags: PageTable
     ensures { machine words.new ≡ remapped (protected_in (machine words.old) process slot flags.0) (machine words.old) process }
 {
     let n = mapped_count(&words[..], process);
-    let mut i = 0;
-    while i < n {
+    for i in 0..n {
         protect_row(words, process, slot, i, flags);
-        i += 1;
     }
 }
 
@@ -100,22 +97,7 @@ fn protect_rows(words: &mut [u64], process: usize, slot: usize, flags: PageTable
 fn with_flags(region: Region, flags: PageTableFlags) -> Region
     ensures { result ≡ with_flags region flags.0 }
 {
-    let start = region.start;
-    let range = region.range;
-    Region {
-        kind: region.kind,
-        start: start,
-        size: region.size,
-        flags: flags,
-        fork: region.fork,
-        per_thread: region.per_thread,
-        pins: region.pins,
-        file: region.file,
-        offset: region.offset,
-        length: region.length,
-        ranged: region.ranged,
-        range: range,
-    }
+    Region { flags, ..region }
 }
 
 // Replaces a region's flags and remaps its mapped pages: the Rust's set_protection.
@@ -132,42 +114,39 @@ fn set_protection(words: &mut [u64], process: usize, slot: usize, flags: PageTab
 }
 
 // The region whose flags are to be replaced, or why it cannot be: the refusals in the order of their numbers.
-fn protectable(words: &[u64], process: u64, addr: VirtAddr, flags: u64) -> Named
+fn protectable(words: &[u64], process: u64, addr: VirtAddr, flags: u64) -> Result<usize, Refusal>
     requires { length words.now ≡ word_count }
     ensures { result ≡ protect_by words.now process addr.0 flags }
 {
     if !is_open(words, process) {
-        return Named::No(Refusal::NoProcess);
+        return Err(Refusal::NoProcess);
     }
     if !addr.is_user() {
-        return Named::No(Refusal::BadAddress);
+        return Err(Refusal::BadAddress);
     }
-    let CheckedFlags::Good(_) = PageTableFlags::from_bits(flags) else {
-        return Named::No(Refusal::BadFlags);
-    };
-    let Found::At(slot) = region_for(words, process as usize, addr) else {
-        return Named::No(Refusal::NoRegion);
-    };
+    if PageTableFlags::from_bits(flags).is_none() {
+        return Err(Refusal::BadFlags);
+    }
+    let slot = region_for(words, process as usize, addr).ok_or(Refusal::NoRegion)?;
     let region = region_in(words, process as usize, slot);
     if region.kind == SHARED {
-        return Named::No(Refusal::UnsupportedRegion);
+        return Err(Refusal::UnsupportedRegion);
     }
-    Named::Slot(slot)
+    Ok(slot)
 }
 
 // Replaces the flags of the region at an address: the core of the call.
-pub fn protect_core(words: &mut [u64], process: u64, addr: VirtAddr, flags: u64) -> Done
+pub fn protect_core(
+    words: &mut [u64],
+    process: u64,
+    addr: VirtAddr,
+    flags: u64,
+) -> Result<(), Refusal>
     requires words_len { length words.old ≡ word_count }
     requires sound_words { SoundWords words.old }
     ensures { DoesWords (λ s. calls.protect s process addr.0 flags) words.old words.new result }
 {
-    match protectable(&words[..], process, addr, flags) {
-        Named::No(refusal) => {
-            return Done::No(refusal);
-        }
-        Named::Slot(slot) => {
-            set_protection(words, process as usize, slot, PageTableFlags(flags));
-            return Done::Yes;
-        }
-    }
+    let slot = protectable(&words[..], process, addr, flags)?;
+    set_protection(words, process as usize, slot, PageTableFlags(flags));
+    Ok(())
 }

@@ -1,8 +1,8 @@
 -- Laws of `Cover`: attached regions are apart, so the addresses of a range that lie in them can be added up region by region; all of them
 -- lie there exactly if the sum is the range's length.
-use Rattle.std.specs.Prelude.{◌≡◌, Bool, ◌&&◌, ℕ, zero, suc, ◌+◌, ◌-◌, ◌*◌, ◌≤◌, ◌<◌, get_or, drop, eqb, ltb, leb}
+use Rattle.std.specs.Prelude.{◌≡◌, Bool, ◌&&◌, ℕ, zero, suc, ◌+◌, ◌-◌, ◌*◌, ◌^◌, ◌≤◌, ◌<◌, min, get_or, drop, eqb, ltb, leb}
 use Rattle.std.proofs.Math.Path.{refl, ap}
-use Rattle.std.proofs.Common.{sym, subst, ◌∙◌, inl, inr, add-one, drop_of_length-le, drop-cons, ltb-true, ltb-false, leb-true, leb-false, lt-ltb, le-ltb, eq-eqb, ne_eqb}
+use Rattle.std.proofs.Common.{sym, subst, ◌∙◌, inl, inr, add-one, drop_of_length-le, drop-cons, ltb-true, ltb-false, leb-true, leb-false, le-ltb, eq-eqb, ne_eqb}
 use Rattle.std.proofs.Math.Bool.{true, false, cond}
 use mathlib.Core.List.{List, [], ◌∷◌}
 use native.Mathlib.Omega.{arith}
@@ -28,20 +28,15 @@ use Rattle.regions.specs.Cover.{end_within, start_within, shared_len, shared_all
 
 -- ---- what the code computes
 
-pub ends_before : (r : Region) (e : ℕ) → span_end r < e → span_end r ≡ end_within r e
-ends_before r e h = rw (lt-ltb (span_end r) e h)
+pub ends_within : (r : Region) (e x : ℕ) → e < 2 ^ 64 → x ≡ min (min (span_end r) (2 ^ 64 - 1)) e → x ≡ end_within r e
+ends_within r e x small k = go (ltb (span_end r) e) refl
+  where
+    go : (b : Bool) → ltb (span_end r) e ≡ b → x ≡ cond b (span_end r) e
+    go true q = let h = ltb-true (span_end r) e q in omega arith
+    go false q = let h = ltb-false (span_end r) e q in omega arith
 
 pub ends_past : (r : Region) (e : ℕ) → e ≤ span_end r → e ≡ end_within r e
 ends_past r e h = rw (le-ltb (span_end r) e h)
-
-pub starts_before : (r : Region) (a : ℕ) → r.start.0 < a → a ≡ start_within r a
-starts_before r a h = rw (lt-ltb r.start.0 a h)
-
-pub starts_past : (r : Region) (a : ℕ) → a ≤ r.start.0 → r.start.0 ≡ start_within r a
-starts_past r a h = rw (le-ltb r.start.0 a h)
-
-pub shared_some : (r : Region) (a e x y z : ℕ) → x ≡ end_within r e → y ≡ start_within r a → z ≡ x - y → z ≡ shared_len r a e
-shared_some r a e x y z i j k = k ∙ (λ h. i h - j h)
 
 pub slot_some : (m : Machine) (p slot : ℕ) (r : Region) → r ≡ region_at m p slot → (a e x : ℕ) → x ≡ shared_len r a e → x ≡ shared_len (region_at m p slot) a e
 slot_some m p slot r row a e x k = k ∙ ap (λ (y : Region). shared_len y a e) row

@@ -10,5 +10,5 @@ pub mod AddedLaws
 pub mod PickedLaws
 pub mod Detached
 pub mod DetachedLaws
-pub mod StartsLaws
 pub mod RoomLaws
+pub mod EntryAddedLaws

@@ -1,9 +1,8 @@
 -- The starts of a process's regions, filled in one after the other.
-use Rattle.std.specs.Prelude.{◌≡◌, refl, List, ℕ, ◌+◌, ◌*◌, ◌≤◌, ◌<◌, length, get_or, set, take}
+use Rattle.std.specs.Prelude.{◌≡◌, refl, List, ℕ, ◌+◌, ◌*◌, ◌≤◌, ◌<◌, length, get_or, set, take, Ok}
 use Rattle.std.proofs.Math.Path.{ap, sym}
 use Rattle.std.proofs.Common.{◌∙◌, arith, add-one, length-set, take_all}
 use Rattle.std.proofs.lemmas.List.{length-map}
-use Rattle.model.specs.declared.Done.TheVariants.{Yes}
 use Rattle.laws.specs.Lists.{pad}
 use Rattle.model.specs.Layout.{machine}
 use Rattle.model.specs.Machine.{region_at, order_of}
@@ -38,6 +37,6 @@ module _ (w : List ℕ) (p n : ℕ) (sized : n ≡ length (order_of (machine w) 
             ∙ pad_more 64 0 (listed w p) i (rw listed_length h) (omega arith)
             ∙ ap (λ (j : ℕ). pad 64 0 (take j (listed w p))) (sym (add-one i))
 
-    pub filled_all : n ≤ i → record { done = Yes; count = n; starts = out } ≡ listing (listed w p)
+    pub filled_all : n ≤ i → record { done = Ok tt; count = n; starts = out } ≡ listing (listed w p)
     unfolding listing
-    filled_all h = λ k. record { done = Yes; count = sym listed_length k; starts = (s.1.1 ∙ ap (λ t. pad 64 0 t) (take_all i (listed w p) (rw listed_length h))) k }
+    filled_all h = λ k. record { done = Ok tt; count = sym listed_length k; starts = (s.1.1 ∙ ap (λ t. pad 64 0 t) (take_all i (listed w p) (rw listed_length h))) k }

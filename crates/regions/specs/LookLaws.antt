@@ -1,15 +1,12 @@
 -- The calls that look, way by way.
-use Rattle.std.specs.Prelude.{◌≡◌, Bool, ℕ, ◌+◌, ◌*◌, replicate}
-use Rattle.std.proofs.Math.Path.{ap, sym}
+use Rattle.std.specs.Prelude.{◌≡◌, Bool, ℕ, ◌+◌, ◌*◌, replicate, Ok, Err, true, false, Result}
+use Rattle.std.proofs.Math.Path.{refl, ap, sym}
 use Rattle.std.proofs.Common.{◌∙◌}
 use Rattle.std.proofs.Math.Bool.{cond}
 use mathlib.Core.List.{List}
 use Rattle.std.proofs.Math.ListN.{get_or}
 use Rattle.answers.specs.declared.Refusal.{Refusal}
 use Rattle.model.specs.declared.Region.{Region}
-use Rattle.model.specs.declared.Done.TheVariants.{Yes, No}
-use Rattle.model.specs.declared.Placed.TheVariants as placed
-use Rattle.model.specs.declared.Covering.TheVariants as covering
 use Rattle.model.specs.declared.Listed.{Listed}
 use Rattle.model.specs.Machine.{no_region, order_of}
 use Rattle.model.specs.Layout.{machine}
@@ -21,30 +18,34 @@ use Rattle.rows.specs.LentMemory.{SoundWords, state_of, words_alone, OnSound}
 use Rattle.rows.specs.GuardedLaws.{refused, granted}
 
 module _ (w : List ℕ) (p a : ℕ) where
-  pub region_refused : (r : Refusal) → No r ≡ first_of (region_refusals (words_alone w) p a) → OnSound (λ s. region s p a) w (placed.No r)
+  pub region_refused : (r : Refusal) → Err r ≡ first_of (region_refusals (words_alone w) p a) → OnSound (λ s. region s p a) w (Err r)
   unfolding region region_refusals
-  region_refused r e f b s = sym (ap (λ x. x.answer) (refused (state_of w f b) placed.No _ _ s r e))
+  region_refused r e f b s = sym (ap (λ x. x.answer) (refused (state_of w f b) Err _ _ s r e))
 
-  pub region_answered : Yes ≡ first_of (region_refusals (words_alone w) p a) → (slot : ℕ) (row : Region) → row ≡ get_or (machine w).regions (p * 64 + slot) no_region → slot ≡ slot_at (words_alone w) p a → OnSound (λ s. region s p a) w (placed.At row.start)
+  pub region_answered : Ok tt ≡ first_of (region_refusals (words_alone w) p a) → (slot : ℕ) (row : Region) → row ≡ get_or (machine w).regions (p * 64 + slot) no_region → slot ≡ slot_at (words_alone w) p a → OnSound (λ s. region s p a) w (Ok row.start)
   unfolding region region_refusals
   region_answered e slot row q j f b s =
-      ap (λ (x : Region). placed.At x.start) (q ∙ ap (λ (k : ℕ). get_or (machine w).regions (p * 64 + k) no_region) j)
-      ∙ sym (ap (λ x. x.answer) (granted (state_of w f b) placed.No _ _ s e))
+      ap (λ (x : Region). Ok x.start) (q ∙ ap (λ (k : ℕ). get_or (machine w).regions (p * 64 + k) no_region) j)
+      ∙ sym (ap (λ x. x.answer) (granted (state_of w f b) Err _ _ s e))
 
 module _ (w : List ℕ) (p : ℕ) where
   module _ (a e : ℕ) where
-    pub covers_refused : (r : Refusal) → No r ≡ first_of (process_refusals (words_alone w) p) → OnSound (λ s. covers s p a e) w (covering.No r)
+    pub covers_refused : (r : Refusal) → Err r ≡ first_of (process_refusals (words_alone w) p) → OnSound (λ s. covers s p a e) w (Err r)
     unfolding covers process_refusals
-    covers_refused r q f b s = sym (ap (λ x. x.answer) (refused (state_of w f b) covering.No _ _ s r q))
+    covers_refused r q f b s = sym (ap (λ x. x.answer) (refused (state_of w f b) Err _ _ s r q))
 
-    pub covers_answered : Yes ≡ first_of (process_refusals (words_alone w) p) → (c : Bool) → (SoundWords w → c ≡ covered (machine w) p a e) → OnSound (λ s. covers s p a e) w (cond c covering.Covered covering.Uncovered)
+    pub covers_answered : Ok tt ≡ first_of (process_refusals (words_alone w) p) → (c : Bool) → (SoundWords w → c ≡ covered (machine w) p a e) → OnSound (λ s. covers s p a e) w (Ok c)
     unfolding covers process_refusals
-    covers_answered q c k f b s = ap (λ (x : Bool). cond x covering.Covered covering.Uncovered) (k (record { frames = f; files = b; sound = s })) ∙ sym (ap (λ x. x.answer) (granted (state_of w f b) covering.No _ _ s q))
+    covers_answered q c k f b s = told c ∙ ap (λ (x : Bool). cond x (Ok true) (Ok false)) (k (record { frames = f; files = b; sound = s })) ∙ sym (ap (λ x. x.answer) (granted (state_of w f b) Err _ _ s q))
+      where
+        told : (x : Bool) → ◌≡◌ {A = Result Bool Refusal} (Ok x) (cond x (Ok true) (Ok false))
+        told true = refl
+        told false = refl
 
-  pub regions_refused : (r : Refusal) → No r ≡ first_of (process_refusals (words_alone w) p) → (zeros : List ℕ) → zeros ≡ replicate 64 0 → OnSound (λ s. regions s p) w (record { done = No r; count = 0; starts = zeros })
+  pub regions_refused : (r : Refusal) → Err r ≡ first_of (process_refusals (words_alone w) p) → (zeros : List ℕ) → zeros ≡ replicate 64 0 → OnSound (λ s. regions s p) w (record { done = Err r; count = 0; starts = zeros })
   unfolding regions process_refusals not_listed
-  regions_refused r q zeros z f b s = ap (λ (l : List ℕ). record { done = No r; count = 0; starts = l }) z ∙ sym (ap (λ x. x.answer) (refused (state_of w f b) not_listed _ _ s r q))
+  regions_refused r q zeros z f b s = ap (λ (l : List ℕ). record { done = Err r; count = 0; starts = l }) z ∙ sym (ap (λ x. x.answer) (refused (state_of w f b) not_listed _ _ s r q))
 
-  pub regions_answered : Yes ≡ first_of (process_refusals (words_alone w) p) → (l : Listed) → l ≡ listing (starts_of (machine w) p (order_of (machine w) p)) → OnSound (λ s. regions s p) w l
+  pub regions_answered : Ok tt ≡ first_of (process_refusals (words_alone w) p) → (l : Listed) → l ≡ listing (starts_of (machine w) p (order_of (machine w) p)) → OnSound (λ s. regions s p) w l
   unfolding regions process_refusals
   regions_answered q l k f b s = k ∙ sym (ap (λ x. x.answer) (granted (state_of w f b) not_listed _ _ s q))

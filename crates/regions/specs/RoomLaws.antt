@@ -1,5 +1,5 @@
 -- Where a slot is free, list order has a place left: its slots are in use, and none stands there twice.
-use Rattle.std.specs.Prelude.{◌≢◌, ◌≡◌, Bool, not, cond, get_or, drop}
+use Rattle.std.specs.Prelude.{◌≢◌, ◌≡◌, Bool, not, cond, get_or, drop, Option, Some}
 use Rattle.std.proofs.Math.Path.{refl, ap}
 use Rattle.std.proofs.Common.{sym, subst, ◌∙◌, not-suc-le-zero}
 use Rattle.std.proofs.Math.Bool.{true, false}
@@ -11,8 +11,6 @@ use Rattle.std.proofs.Math.Dec.{eqb}
 use borrow.Author.Tests.{eqb-true, eqb-false, ne_eqb}
 use Rattle.model.specs.declared.Process.{Process}
 use Rattle.model.specs.declared.Region.{Region}
-use Rattle.model.specs.declared.Found.{Found}
-use Rattle.model.specs.declared.Found.TheVariants.{At}
 use Rattle.laws.specs.Lists.{part, keep}
 use Rattle.laws.specs.Tests.{Pairs}
 use Rattle.model.specs.Machine.{Machine, process_at, order_of, region_at, no_region}
@@ -103,7 +101,7 @@ once_most (suc n) l h o =
 
 -- ---- the free slot
 
-module _ (m : Machine) (p s : ℕ) (found : free_slot m p ≡ At s) where
+module _ (m : Machine) (p s : ℕ) (found : free_slot m p ≡ Some s) where
   free_row : (s < length (regions_of m p)) × (free_region (get_or (regions_of m p) s no_region) ≡ true)
   unfolding free_slot
   free_row = first_found free_region (regions_of m p) s no_region found
@@ -132,4 +130,4 @@ module _ (m : Machine) (p s : ℕ) (found : free_slot m p ≡ At s) where
 
   -- .. and the slot that is put there makes the model's add_region
   pub adds_region : (r : Region) → Ordered m p (process_at m p) → p * 64 + 64 ≤ length m.order → with_added m p s r ≡ add_region m p r
-  adds_region r o inside = ap (λ (t : ℕ). with_added m p t r) (ap (λ (f : Found). row_found f) (sym found)) ∙ added_free m p r inside (room_left (process_at m p) o inside) o.free
+  adds_region r o inside = ap (λ (t : ℕ). with_added m p t r) (ap (λ (f : Option ℕ). row_found f) (sym found)) ∙ added_free m p r inside (room_left (process_at m p) o inside) o.free

@@ -3,7 +3,6 @@ ghost use Rattle.std.specs.Prelude.{◌≡◌, ◌<◌, length, set};
 ghost use Rattle.model.specs.Layout.{word_count, machine};
 ghost use Rattle.model.specs.Machine.{process_at, attached_of, with_processes};
 
-use address::VirtAddr;
 use model::Process;
 use rows::processes::{process_at, put_process};
 
@@ -15,11 +14,8 @@ pub fn put_attached(words: &mut [u64], process: usize, count: u64)
 {
     let p = process_at(&words[..], process);
     let row = Process {
-        opened: p.opened,
-        start: VirtAddr(p.start.0),
-        size: p.size,
         attached: count,
-        mapped: p.mapped,
+        ..p
     };
     put_process(words, process, row);
 }

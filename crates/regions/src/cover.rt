@@ -1,5 +1,5 @@
 // Whether a process's attached regions cover a range: what they hold of it is added up, with no copy of their spans.
-ghost use Rattle.std.specs.Prelude.{◌≡◌, ◌-◌, ◌<◌, length};
+ghost use Rattle.std.specs.Prelude.{◌≡◌, ◌<◌, length};
 ghost use Rattle.model.specs.Layout.{word_count, machine};
 ghost use Rattle.model.specs.Machine.{region_at};
 ghost use Rattle.model.specs.Lookup.{covered};
@@ -14,42 +14,21 @@ use rows::slots::{order_at, region_at};
 fn end_within(region: Region, end: u64) -> u64
     ensures { result ≡ end_within region end }
 {
-    if end <= region.start.0 {
-        return end;
-    }
-    if region.size < end - region.start.0 {
-        return region.start.0 + region.size;
-    }
-    end
+    region.start.0.saturating_add(region.size).min(end)
 }
 
 // The start of a region, or the range's start where that is higher.
 fn start_within(region: Region, start: u64) -> u64
     ensures { result ≡ start_within region start }
 {
-    if region.start.0 < start {
-        return start;
-    }
-    region.start.0
-}
-
-// a - b, and 0 where b is more.
-fn less(a: u64, b: u64) -> u64
-    ensures { result ≡ a - b }
-{
-    if a < b {
-        return 0;
-    }
-    a - b
+    region.start.0.max(start)
 }
 
 // How many addresses from start up to end lie in a region.
 fn shared_len(region: Region, start: u64, end: u64) -> u64
     ensures { result ≡ shared_len region start end }
 {
-    let last = end_within(region, end);
-    let first = start_within(region, start);
-    less(last, first)
+    end_within(region, end).saturating_sub(start_within(region, start))
 }
 
 // How many addresses from start up to end lie in the region in a process's slot; past the last row there is none. Its row is read
@@ -78,11 +57,9 @@ pub fn covers(words: &[u64], process: usize, start: u64, end: u64) -> bool
     }
     let n = attached_count(words, process);
     let mut left = end - start;
-    let mut i = 0;
-    while i < n {
+    for i in 0..n {
         let slot = order_at(words, process * SLOTS + i);
-        left = less(left, slot_len(words, process, slot as usize, start, end));
-        i += 1;
+        left = left.saturating_sub(slot_len(words, process, slot as usize, start, end));
     }
     left == 0
 }

@@ -39,10 +39,8 @@ fn retain(words: &mut [u64], process: usize, slot: usize) -> usize
 {
     let n = attached_count(&words[..], process);
     let mut kept = 0;
-    let mut i = 0;
-    while i < n {
+    for i in 0..n {
         kept = keep_place(words, process, i, kept, slot);
-        i += 1;
     }
     kept
 }
@@ -54,10 +52,8 @@ pub fn clear_places(words: &mut [u64], process: usize, from: usize)
     requires from_bound { from ≤ 64 }
     ensures { machine words.new ≡ with_order_table (machine words.old) (sets (machine words.old).order (process * 64 + from) (replicate (64 - from) 0)) }
 {
-    let mut i = from;
-    while i < SLOTS {
+    for i in from..SLOTS {
         put_order(words, process * SLOTS + i, 0);
-        i += 1;
     }
 }
 

@@ -8,7 +8,7 @@ ghost use Rattle.regions.specs.Starts.{with_starts};
 
 use crate::slot::region_in;
 use lookup::attached::attached_count;
-use model::{Counted, Done, SLOTS};
+use model::{Counted, SLOTS};
 use rows::slots::order_at;
 
 // The start of the region at a place of list order.
@@ -19,8 +19,7 @@ fn start_at(words: &[u64], process: usize, place: usize) -> u64
     ensures { result ≡ (region_at (machine words.now) process (get_or (machine words.now).order (process * 64 + place) 0)).start.0 }
 {
     let slot = order_at(words, process * SLOTS + place) as usize;
-    let region = region_in(words, process, slot);
-    region.start.0
+    region_in(words, process, slot).start.0
 }
 
 // No starts: zeros alone.
@@ -28,11 +27,7 @@ pub fn put_zeros(starts: &mut [u64])
     requires { length starts.old ≡ 64 }
     ensures { starts.new ≡ replicate 64 0 }
 {
-    let mut i = 0;
-    while i < SLOTS {
-        starts[i] = 0;
-        i += 1;
-    }
+    starts.fill(0);
 }
 
 // The starts of a process's attached regions, put into zeros.
@@ -43,13 +38,11 @@ pub fn put_starts(words: &[u64], starts: &mut [u64], process: usize) -> Counted
     ensures { with_starts result starts.new ≡ listing (starts_of (machine words.now) process (order_of (machine words.now) process)) }
 {
     let n = attached_count(words, process);
-    let mut i = 0;
-    while i < n {
+    for i in 0..n {
         starts[i] = start_at(words, process, i);
-        i += 1;
     }
     Counted {
-        done: Done::Yes,
+        done: Ok(()),
         count: n as u64,
     }
 }

@@ -8,42 +8,29 @@ ghost use Rattle.regions.specs.Starts.{with_starts};
 use crate::cover::covers;
 use crate::list::{put_starts, put_zeros};
 use address::VirtAddr;
-use lookup::named::{Named, process_refusal, region_named};
-use model::{Counted, Covering, Done, Placed, SLOTS};
+use answers::Refusal;
+use lookup::named::{process_refusal, region_named};
+use model::{Counted, SLOTS};
 use rows::slots::region_at;
 
 // The start of the region at an address, of a sound machine.
-pub fn region_core(words: &[u64], process: u64, addr: VirtAddr) -> Placed
+pub fn region_core(words: &[u64], process: u64, addr: VirtAddr) -> Result<VirtAddr, Refusal>
     requires words_len { length words.now ≡ word_count }
     requires sound_words { SoundWords words.now }
     ensures { OnSound (λ s. region s process addr.0) words.now result }
 {
-    match region_named(words, process, addr) {
-        Named::No(refusal) => Placed::No(refusal),
-        Named::Slot(slot) => {
-            let row = region_at(words, process as usize * SLOTS + slot);
-            let start = row.start;
-            Placed::At(start)
-        }
-    }
+    let slot = region_named(words, process, addr)?;
+    let row = region_at(words, process as usize * SLOTS + slot);
+    Ok(row.start)
 }
 
 // Whether a process's regions cover a range.
-pub fn covers_core(words: &[u64], process: u64, start: u64, end: u64) -> Covering
+pub fn covers_core(words: &[u64], process: u64, start: u64, end: u64) -> Result<bool, Refusal>
     requires { length words.now ≡ word_count }
     ensures { OnSound (λ s. covers s process start end) words.now result }
 {
-    match process_refusal(words, process) {
-        Done::No(refusal) => {
-            return Covering::No(refusal);
-        }
-        Done::Yes => {
-            if covers(words, process as usize, start, end) {
-                return Covering::Covered;
-            }
-            return Covering::Uncovered;
-        }
-    }
+    process_refusal(words, process)?;
+    Ok(covers(words, process as usize, start, end))
 }
 
 // The starts of a process's regions, in list order, put into lent memory.
@@ -54,14 +41,10 @@ pub fn regions_core(words: &[u64], starts: &mut [u64], process: u64) -> Counted
 {
     put_zeros(starts);
     match process_refusal(words, process) {
-        Done::No(refusal) => {
-            return Counted {
-                done: Done::No(refusal),
-                count: 0,
-            };
-        }
-        Done::Yes => {
-            return put_starts(words, starts, process as usize);
-        }
+        Err(refusal) => Counted {
+            done: Err(refusal),
+            count: 0,
+        },
+        Ok(()) => put_starts(words, starts, process as usize),
     }
 }

@@ -10,7 +10,7 @@ ghost use Rattle.paging.specs.ProcessRows.{rows_of, with_rows};
 ghost use Rattle.remap.specs.Remapped.{remapped};
 ghost use Rattle.remap.specs.Demoted.{read_only_in, demoted_in};
 
-use address::{Page, PageTableFlags, PhysFrame, VirtAddr};
+use address::{Page, PageTableFlags};
 use model::{Mapping, Region, SHARED};
 use paging::mappings::put_row;
 use paging::search::{mapped_count, row_at};
@@ -19,12 +19,11 @@ use paging::search::{mapped_count, row_at};
 pub fn maps_in(region: Region, page: Page) -> bool
     ensures { result ≡ contains region (page_start page.0) }
 {
-    let start = region.start.0;
-    let first = Page::starting_from(VirtAddr(start), 0);
+    let first = Page::starting_from(region.start, 0);
     if page.0 < first.0 {
         return false;
     }
-    let end = Page::starting_from(VirtAddr(start), region.size);
+    let end = Page::starting_from(region.start, region.size);
     page.0 < end.0
 }
 
@@ -32,11 +31,7 @@ pub fn maps_in(region: Region, page: Page) -> bool
 pub fn reflag(row: Mapping, flags: PageTableFlags) -> Mapping
     ensures { result ≡ mapping row.page.0 row.frame.0 flags.0 }
 {
-    Mapping {
-        page: Page(row.page.0),
-        frame: PhysFrame(row.frame.0),
-        flags: flags,
-    }
+    Mapping { flags, ..row }
 }
 
 // Takes WRITABLE off a row whose page starts inside a region.
@@ -47,12 +42,10 @@ fn demote_row(words: &mut [u64], process: usize, i: usize, region: Region)
     ensures { machine words.new ≡ with_rows (machine words.old) process (set (rows_of (machine words.old) process) i (read_only_in region (get_or (rows_of (machine words.old) process) i no_mapping))) }
 {
     let row = row_at(&words[..], process, i);
-    let page = row.page;
-    let flags = row.flags;
-    if maps_in(region, page) {
-        put_row(words, process, i, reflag(row, flags.read_only()));
+    if !maps_in(region, row.page) {
         return;
     }
+    put_row(words, process, i, reflag(row, row.flags.read_only()));
 }
 
 // Takes WRITABLE off the mapped pages that start inside a region.
@@ -62,10 +55,8 @@ fn demote_rows(words: &mut [u64], process: usize, region: Region)
     ensures { machine words.new ≡ remapped (read_only_in region) (machine words.old) process }
 {
     let n = mapped_count(&words[..], process);
-    let mut i = 0;
-    while i < n {
+    for i in 0..n {
         demote_row(words, process, i, region);
-        i += 1;
     }
 }
 

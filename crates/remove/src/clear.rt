@@ -27,9 +27,8 @@ pub fn clear(words: &mut [u64], process: usize)
     requires process_bound { process < 8 }
     ensures { Cleared (machine words.old) process (machine words.new) }
 {
-    let mut left = attached_count(&words[..], process);
-    while 0 < left {
+    let count = attached_count(&words[..], process);
+    for _ in 0..count {
         remove_first(words, process);
-        left -= 1;
     }
 }

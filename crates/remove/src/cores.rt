@@ -7,38 +7,26 @@ ghost use Rattle.rows.specs.LentMemory.{SoundWords, DoesWords};
 use crate::clear::clear;
 use crate::region::remove_region;
 use address::VirtAddr;
-use lookup::named::{Named, process_refusal, region_named};
-use model::Done;
+use answers::Refusal;
+use lookup::named::{process_refusal, region_named};
 
 // Removes the region at an address: the core of the call.
-pub fn remove_core(words: &mut [u64], process: u64, addr: VirtAddr) -> Done
+pub fn remove_core(words: &mut [u64], process: u64, addr: VirtAddr) -> Result<(), Refusal>
     requires words_len { length words.old ≡ word_count }
     requires sound_words { SoundWords words.old }
     ensures { DoesWords (λ s. calls.remove s process addr.0) words.old words.new result }
 {
-    match region_named(&words[..], process, addr) {
-        Named::No(refusal) => {
-            return Done::No(refusal);
-        }
-        Named::Slot(slot) => {
-            remove_region(words, process as usize, slot);
-            return Done::Yes;
-        }
-    }
+    let slot = region_named(&words[..], process, addr)?;
+    remove_region(words, process as usize, slot);
+    Ok(())
 }
 
 // Removes all regions of a process: the core of the call.
-pub fn clear_core(words: &mut [u64], process: u64) -> Done
+pub fn clear_core(words: &mut [u64], process: u64) -> Result<(), Refusal>
     requires { length words.old ≡ word_count }
     ensures { DoesWords (λ s. calls.clear s process) words.old words.new result }
 {
-    match process_refusal(&words[..], process) {
-        Done::No(refusal) => {
-            return Done::No(refusal);
-        }
-        Done::Yes => {
-            clear(words, process as usize);
-            return Done::Yes;
-        }
-    }
+    process_refusal(&words[..], process)?;
+    clear(words, process as usize);
+    Ok(())
 }

@@ -55,10 +55,8 @@ fn drop_entries(words: &mut [u64], row: usize)
     requires row_bound { row < 512 }
     ensures { EntriesGone (machine words.old) row (machine words.new) }
 {
-    let mut i = 0;
-    while i < ENTRIES {
+    for i in 0..ENTRIES {
         drop_entry(words, row, i);
-        i += 1;
     }
 }
 

@@ -1,5 +1,5 @@
 -- Laws of `InTheWay`: a region in the way of a new segment, and that a process's segments overlap it exactly if one of its regions is in the way.
-use Rattle.std.specs.Prelude.{◌≡◌, Bool, ◌&&◌, ◌||◌, cond, ℕ, ◌+◌, ◌-◌, ◌/◌, ◌≤◌, ◌<◌, ltb}
+use Rattle.std.specs.Prelude.{◌≡◌, Bool, ◌&&◌, ◌||◌, cond, ℕ, ◌+◌, ◌-◌, ◌/◌, ◌≤◌, ◌<◌, ltb, Option, Some}
 use Rattle.std.proofs.Math.Path.{refl, ap}
 use Rattle.std.proofs.Common.{sym, ◌∙◌, arith, eq-eqb, ne_eqb}
 use Rattle.std.proofs.Math.Bool.{true, false}
@@ -7,7 +7,6 @@ use mathlib.Core.List.{List, [], ◌∷◌}
 use Rattle.laws.specs.BoolLaws.{or_swap}
 use Rattle.laws.specs.TellsLaws.{not_told, tells_same}
 use Rattle.segment.specs.declared.Segment.{Segment}
-use Rattle.segment_search.specs.declared.Found.TheVariants.{In}
 use Rattle.segment.specs.Form.{beforeb, overb}
 use Rattle.segment.specs.FormLaws.{over_tells}
 use Rattle.laws.specs.TestLaws.{tells_lt, tells_as}
@@ -15,8 +14,6 @@ use Rattle.segments.specs.Table.{insert}
 use Rattle.segment_search.specs.Search.{first_over}
 use Rattle.segments.specs.Calls.{is_in, overlapsb}
 use Rattle.model.specs.declared.Region.{Region}
-use Rattle.model.specs.declared.Found.{Found}
-use Rattle.model.specs.declared.Found.TheVariants.{At}
 use Rattle.model.specs.Machine.{Machine}
 use Rattle.model.specs.Lookup.{first_row, is_used, is_found, pages_for, segment_len, regions_of}
 use Rattle.model.specs.Segments.{segments_in, segments_of, reserved}
@@ -62,7 +59,7 @@ module _ (first last : ℕ) where
   unfolding first_over
   over_first s t = by (overb s first last)
     where
-      by : (b : Bool) → is_in (cond b (In s) (first_over t first last)) ≡ (b || any_over t first last)
+      by : (b : Bool) → is_in (cond b (Some s) (first_over t first last)) ≡ (b || any_over t first last)
       by true = refl
       by false = refl
 
@@ -83,7 +80,7 @@ found_over start len [] i = refl
 found_over start len (r ∷ l) i = by (is_used r) (overb (segment_for r) start (start + (len - 1))) refl (found_over start len l (i + 1))
   where
     by : (u o : Bool) → overb (segment_for r) start (start + (len - 1)) ≡ o → is_found (first_row (over_used start len) l (i + 1)) ≡ any_over (segments_in l) start (start + (len - 1))
-        → is_found (cond (u && o) (At i) (first_row (over_used start len) l (i + 1))) ≡ any_over (cond u (insert (segment_for r) (segments_in l)) (segments_in l)) start (start + (len - 1))
+        → is_found (cond (u && o) (Some i) (first_row (over_used start len) l (i + 1))) ≡ any_over (cond u (insert (segment_for r) (segments_in l)) (segments_in l)) start (start + (len - 1))
     by false o e ih = ih
     by true true e ih = sym (over_insert start (start + (len - 1)) (segment_for r) (segments_in l) ∙ ap (λ (b : Bool). b || any_over (segments_in l) start (start + (len - 1))) e)
     by true false e ih = ih ∙ sym (over_insert start (start + (len - 1)) (segment_for r) (segments_in l) ∙ ap (λ (b : Bool). b || any_over (segments_in l) start (start + (len - 1))) e)
@@ -93,6 +90,6 @@ module _ (m : Machine) (p start len : ℕ) where
   unfolding reserved overlapsb
   reserved_empty e = rw (eq-eqb len 0 e)
 
-  pub reserved_found : (len ≡ 0 → ⊥) → (f : Found) → f ≡ first_row (over_used start len) (regions_of m p) 0 → is_found f ≡ reserved m p start len
+  pub reserved_found : (len ≡ 0 → ⊥) → (f : Option ℕ) → f ≡ first_row (over_used start len) (regions_of m p) 0 → is_found f ≡ reserved m p start len
   unfolding reserved overlapsb segments_of
   reserved_found n f e = ap is_found e ∙ found_over start len (regions_of m p) 0 ∙ rw (ne_eqb len 0 n)

@@ -8,22 +8,15 @@ ghost use Rattle.reserve.specs.LowestSpot.{ProcessesFit, found_spot};
 
 use crate::taken::{first_over, reserved};
 use address::{PAGE_SIZE, VirtAddr};
-use model::{Found, Place, SLOTS};
+use model::{Place, SLOTS};
 use rows::processes::process_at;
 use rows::sizes::pages_for;
 use rows::slots::region_at;
 
-// The start of a new segment, where there is room for it.
-#[derive(Clone, Copy)]
-pub enum FoundSpot {
-    At(VirtAddr),
-    Nothing,
-}
-
 // The lowest start from one on with `len` bytes free up to `last`. It starts over just past the region in its way; the number of
 // regions still ahead falls each time. Which of several is met first does not matter, so slots are looked through as they stand.
 // A loop: a function that calls itself with a slice keeps a frame for each restart.
-fn lowest_from(words: &[u64], process: usize, last: u64, len: u64, from: u64) -> FoundSpot
+fn lowest_from(words: &[u64], process: usize, last: u64, len: u64, from: u64) -> Option<VirtAddr>
     requires words_len { length words.now ≡ word_count }
     requires process_bound { process < 8 }
     requires len_nonzero { 0 < len }
@@ -32,43 +25,40 @@ fn lowest_from(words: &[u64], process: usize, last: u64, len: u64, from: u64) ->
     let mut start = from;
     while start <= last {
         if last - start < len - 1 {
-            return FoundSpot::Nothing;
+            return None;
         }
-        let Found::At(slot) = first_over(words, process, start, len) else {
-            return FoundSpot::At(VirtAddr(start));
+        let Some(slot) = first_over(words, process, start, len) else {
+            return Some(VirtAddr(start));
         };
         let region = region_at(words, process * SLOTS + slot);
         let pages = pages_for(region.size);
         if (last - region.start.0) / PAGE_SIZE < pages {
-            return FoundSpot::Nothing;
+            return None;
         }
         start = region.start.0 + pages * PAGE_SIZE;
     }
-    FoundSpot::Nothing
+    None
 }
 
 // The lowest start with `len` bytes free in a process's arena. An arena that ends past all addresses is damaged: nothing is free.
-pub fn lowest_start(words: &[u64], process: usize, len: u64) -> FoundSpot
+pub fn lowest_start(words: &[u64], process: usize, len: u64) -> Option<VirtAddr>
     requires words_len { length words.now ≡ word_count }
     requires process_bound { process < 8 }
     ensures { ProcessesFit (machine words.now) → found_spot result ≡ lowest_start (machine words.now) process len }
 {
     let arena = process_at(words, process);
     if len == 0 {
-        return FoundSpot::Nothing;
+        return None;
     }
     if arena.size < len {
-        return FoundSpot::Nothing;
+        return None;
     }
-    if 0xffff_ffff_ffff_ffff - arena.start.0 < arena.size - 1 {
-        return FoundSpot::Nothing;
-    }
-    let last = arena.start.0 + (arena.size - 1);
+    let last = arena.start.0.checked_add(arena.size - 1)?;
     lowest_from(words, process, last, len, arena.start.0)
 }
 
 // Where a segment of `len` bytes goes: the given start if nothing is reserved there, or the lowest free one.
-pub fn spot(words: &[u64], process: usize, place: Place, len: u64) -> FoundSpot
+pub fn spot(words: &[u64], process: usize, place: Place, len: u64) -> Option<VirtAddr>
     requires words_len { length words.now ≡ word_count }
     requires process_bound { process < 8 }
     ensures { ProcessesFit (machine words.now) → found_spot result ≡ spot (machine words.now) process place len }
@@ -77,7 +67,7 @@ pub fn spot(words: &[u64], process: usize, place: Place, len: u64) -> FoundSpot
         return lowest_start(words, process, len);
     };
     if reserved(words, process, start.0, len) {
-        return FoundSpot::Nothing;
+        return None;
     }
-    FoundSpot::At(start)
+    Some(start)
 }

@@ -6,7 +6,7 @@ ghost use Rattle.model.specs.Segments.{reserved};
 ghost use Rattle.reserve.specs.InTheWay.{over_used};
 
 use address::PAGE_SIZE;
-use model::{FREE, Found, Region, SLOTS};
+use model::{FREE, Region, SLOTS};
 use rows::sizes::pages_for;
 use rows::slots::region_at;
 
@@ -21,28 +21,23 @@ fn is_over(region: Region, start: u64, len: u64) -> bool
     if region.start.0 <= start {
         return (start - region.start.0) / PAGE_SIZE < pages_for(region.size);
     }
-    if region.size == 0 {
-        return false;
-    }
-    region.start.0 - start < len
+    region.size != 0 && region.start.0 - start < len
 }
 
 // The first slot of a process whose region has one of `len` bytes from `start` on.
-pub fn first_over(words: &[u64], process: usize, start: u64, len: u64) -> Found
+pub fn first_over(words: &[u64], process: usize, start: u64, len: u64) -> Option<usize>
     requires words_len { length words.now ≡ word_count }
     requires process_bound { process < 8 }
     requires len_nonzero { 0 < len }
     ensures { result ≡ first_row (over_used start len) (regions_of (machine words.now) process) 0 }
 {
-    let mut i = 0;
-    while i < SLOTS {
+    for i in 0..SLOTS {
         let region = region_at(words, process * SLOTS + i);
         if is_over(region, start, len) {
-            return Found::At(i);
+            return Some(i);
         }
-        i += 1;
     }
-    Found::Nothing
+    None
 }
 
 // Whether a new segment overlaps one of a process's regions, attached or detached. An empty one overlaps nothing.
@@ -51,11 +46,5 @@ pub fn reserved(words: &[u64], process: usize, start: u64, len: u64) -> bool
     requires process_bound { process < 8 }
     ensures { result ≡ reserved (machine words.now) process start len }
 {
-    if len == 0 {
-        return false;
-    }
-    let Found::At(_) = first_over(words, process, start, len) else {
-        return false;
-    };
-    true
+    len != 0 && first_over(words, process, start, len).is_some()
 }

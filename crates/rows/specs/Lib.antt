@@ -7,4 +7,3 @@ pub mod PutsLaws
 pub mod LentMemory
 pub mod GuardedLaws
 pub mod FileRow
-pub mod FileRowLaws

@@ -38,13 +38,8 @@ pub fn put_file(words: &mut [u64], i: usize, row: File)
 pub fn is_lent(file: File, bytes: usize) -> bool
     ensures { result ≡ is_lent bytes file }
 {
-    if 1 < file.readable {
-        return false;
-    }
-    if (bytes as u64) < file.len {
-        return false;
-    }
-    file.offset <= bytes as u64 - file.len
+    let bytes = bytes as u64;
+    file.readable <= 1 && file.len <= bytes && file.offset <= bytes - file.len
 }
 
 // How many files there are.

@@ -8,7 +8,7 @@ use address::{PAGE_SIZE, USER_END};
 pub fn pages_for(bytes: u64) -> u64
     ensures { result ≡ pages_for bytes }
 {
-    bytes / PAGE_SIZE + (bytes % PAGE_SIZE + (PAGE_SIZE - 1)) / PAGE_SIZE
+    bytes.div_ceil(PAGE_SIZE)
 }
 
 // A size rounded up to pages; a damaged row's, past all user addresses, stays as it is.

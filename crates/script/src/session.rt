@@ -9,7 +9,7 @@ use crate::show::put_said;
 use call_text::{Asked, LoneCall};
 use script_step::lone::Lone;
 use script_step::machine::{Machine, step};
-use script_step::said::Said;
+use script_step::said::{Said, Stepped};
 use std::io;
 use std::io::{Read, Write};
 use text::Held;
@@ -27,13 +27,6 @@ pub struct Session {
     pub ended: bool,
     pub lines: u64,
     pub output: Output,
-}
-
-// What is to be written of a line, and the session after it.
-#[derive(Clone, Copy)]
-struct Heard {
-    said: Said,
-    session: Session,
 }
 
 impl Session {
@@ -139,7 +132,7 @@ impl Session {
         }
         let heard = self.ran(line, words, frames, files, starts);
         let said = heard.said;
-        let session = heard.session;
+        let session = heard.after;
         session.put(
             said,
             line,
@@ -159,12 +152,12 @@ impl Session {
         frames: &mut [u8],
         files: &mut [u8],
         starts: &mut [u64],
-    ) -> Heard
+    ) -> Stepped<Session>
         requires len_in_bounds { self.held.len ≤ length line.now }
         requires lends { Lends self.machine (length frames.old) (length files.old) }
-        ensures len_value { (result.session.held.len ≡ 0) × (result.session.output ≡ self.output) }
-        ensures lends_2 { Lends result.session.machine (length frames.old) (length files.old) }
-        ensures by_index { (input : ℕ) → Reads self input → Reads result.session input }
+        ensures len_value { (result.after.held.len ≡ 0) × (result.after.output ≡ self.output) }
+        ensures lends_2 { Lends result.after.machine (length frames.old) (length files.old) }
+        ensures by_index { (input : ℕ) → Reads self input → Reads result.after input }
     {
         let asked = call_text::held_call(line, self.held);
         self.held = Held::new();
@@ -175,28 +168,22 @@ impl Session {
         let machine = self.machine;
         let stepped = step(machine, asked, line, words, frames, files, starts);
         let said = stepped.said;
-        let machine = stepped.machine;
+        let machine = stepped.after;
         self.machine = machine;
-        Heard {
-            said,
-            session: self,
-        }
+        Stepped { said, after: self }
     }
 
     // Runs a call of the lone manager.
-    fn managed(mut self, call: LoneCall) -> Heard
-        ensures held_value { (result.session.held ≡ self.held) × (result.session.output ≡ self.output) × (result.session.machine ≡ self.machine) }
-        ensures by_index { (input : ℕ) → Reads self input → Reads result.session input }
+    fn managed(mut self, call: LoneCall) -> Stepped<Session>
+        ensures held_value { (result.after.held ≡ self.held) × (result.after.output ≡ self.output) × (result.after.machine ≡ self.machine) }
+        ensures by_index { (input : ℕ) → Reads self input → Reads result.after input }
     {
         let lone = self.lone;
         let step = lone.step(call);
         let said = step.said;
-        let after = step.lone;
+        let after = step.after;
         self.lone = after;
-        Heard {
-            said,
-            session: self,
-        }
+        Stepped { said, after: self }
     }
 
     // Puts what is written of the line, of the machine's memory what it is lent.
@@ -220,7 +207,6 @@ impl Session {
         ensures by_write { OnErr result (self.output.on ≡ true) }
     {
         let output = self.output;
-        let lone = self.lone;
         let machine = self.machine;
         let n = machine.frames;
         let output = put_said(
@@ -230,7 +216,6 @@ impl Session {
             line,
             self.lines,
             said,
-            lone.manager,
             words,
             &frames[..n],
             starts,

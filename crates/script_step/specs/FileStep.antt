@@ -12,12 +12,12 @@ use Rattle.answer_text.specs.declared.answer.Answer.TheVariants.{Count}
 use Rattle.script_step.specs.declared.said.Said.{Said}
 use Rattle.script_step.specs.declared.said.Said.TheVariants as said
 use Rattle.script_step.specs.declared.machine.Machine.{Machine}
-use Rattle.script_step.specs.declared.machine.Stepped.{Stepped}
+use Rattle.script_step.specs.declared.said.Stepped.{Stepped}
 
-abbrev pub says : Machine → Said → Stepped
-says m s = record { said = s; machine = m }
+abbrev pub says : Machine → Said → Stepped Machine
+says m s = record { said = s; after = m }
 
-abbrev pub faulty : Machine → Why → Stepped
+abbrev pub faulty : Machine → Why → Stepped Machine
 faulty m because = says m (said.Fault (whole_fault because))
 
 -- ---- the bytes
@@ -52,9 +52,9 @@ with_file m readable n =
 
 -- what the line says, the machine after it, and the memory of files' bytes: files are lent before the machine is started, 8 at most, and as
 -- many bytes as there is memory for; the answer is the file's number
-unfoldable pub filed : Machine → Bool → (bytes files : List ℕ) → Stepped × List ℕ
+unfoldable pub filed : Machine → Bool → (bytes files : List ℕ) → Stepped Machine × List ℕ
 filed m readable bytes files =
     cond m.started (faulty m why.FilesFirst, files)
     (cond (leb 8 m.files) (faulty m why.TooManyFiles, files)
     (cond (ltb (length files - m.bytes) (length bytes)) (faulty m why.TooManyBytes, files)
-    (record { said = said.Answer (Count m.files); machine = with_file m readable (length bytes) }, put_at files m.bytes bytes)))
+    (record { said = said.Answer (Count m.files); after = with_file m readable (length bytes) }, put_at files m.bytes bytes)))

@@ -10,7 +10,7 @@ use Rattle.call_text.specs.WordList.{text_of, InList}
 use Rattle.answer_text.specs.declared.answer.Answer.TheVariants.{Count}
 use Rattle.script_step.specs.declared.said.Said.TheVariants as said
 use Rattle.script_step.specs.declared.machine.Machine.{Machine}
-use Rattle.script_step.specs.declared.machine.Stepped.{Stepped}
+use Rattle.script_step.specs.declared.said.Stepped.{Stepped}
 use Rattle.script_step.specs.FileStep.{faulty, byte_of, bytes_of, in_line, spelled, with_file, filed}
 
 -- ---- the bytes
@@ -61,31 +61,31 @@ text_length : (line : List ℕ) (w : Word) → InList (length line) w → length
 text_length line w i = length-take-le (w.to - w.from) (drop w.from line) (omega (arith, length-drop w.from line, i.ends))
 
 module _ (m : Machine) (readable : Bool) (line : List ℕ) (digits : Word) (files : List ℕ) where
-  pub filed_late : m.started ≡ true → (r : Stepped) → r ≡ faulty m why.FilesFirst → (r, files) ≡ filed m readable (spelled line digits) files
+  pub filed_late : m.started ≡ true → (r : Stepped Machine) → r ≡ faulty m why.FilesFirst → (r, files) ≡ filed m readable (spelled line digits) files
   unfolding filed
-  filed_late e r q = yes_cond m.started _ _ _ e (ap (λ (x : Stepped). (x, files)) q)
+  filed_late e r q = yes_cond m.started _ _ _ e (ap (λ (x : Stepped Machine). (x, files)) q)
 
   module _ (new : m.started ≡ false) where
-    pub filed_many : 8 ≤ m.files → (r : Stepped) → r ≡ faulty m why.TooManyFiles → (r, files) ≡ filed m readable (spelled line digits) files
+    pub filed_many : 8 ≤ m.files → (r : Stepped Machine) → r ≡ faulty m why.TooManyFiles → (r, files) ≡ filed m readable (spelled line digits) files
     unfolding filed
-    filed_many h r q = no_cond m.started _ _ _ new (yes_cond (leb 8 m.files) _ _ _ (le-leb 8 m.files h) (ap (λ (x : Stepped). (x, files)) q))
+    filed_many h r q = no_cond m.started _ _ _ new (yes_cond (leb 8 m.files) _ _ _ (le-leb 8 m.files h) (ap (λ (x : Stepped Machine). (x, files)) q))
 
     module _ (few : m.files < 8) (w : Word) (is : w ≡ in_line (length line) digits) (lies : InList (length line) w) where
       spells : length (spelled line digits) ≡ (w.to - w.from) / 2
       spells =
           ap (λ (x : Word). length (bytes_of (text_of line x))) (sym is) ∙ bytes_length (text_of line w) ∙ ap (λ (x : ℕ). x / 2) (text_length line w lies)
 
-      pub filed_long : length files - m.bytes < (w.to - w.from) / 2 → (r : Stepped) → r ≡ faulty m why.TooManyBytes → (r, files) ≡ filed m readable (spelled line digits) files
+      pub filed_long : length files - m.bytes < (w.to - w.from) / 2 → (r : Stepped Machine) → r ≡ faulty m why.TooManyBytes → (r, files) ≡ filed m readable (spelled line digits) files
       unfolding filed
       filed_long h r q =
           no_cond m.started _ _ _ new
           (no_cond (leb 8 m.files) _ _ _ (lt-leb 8 m.files few)
           (yes_cond (ltb (length files - m.bytes) (length (spelled line digits))) _ _ _ (ap (ltb (length files - m.bytes)) spells ∙ lt-ltb (length files - m.bytes) ((w.to - w.from) / 2) h)
-          (ap (λ (x : Stepped). (x, files)) q)))
+          (ap (λ (x : Stepped Machine). (x, files)) q)))
 
       pub filed_is : (w.to - w.from) / 2 ≤ length files - m.bytes → (b : List ℕ) → b ≡ put_at files m.bytes (bytes_of (text_of line w))
           → (q : Machine) → q ≡ with_file m readable ((w.to - w.from) / 2)
-          → (record { said = said.Answer (Count m.files); machine = q }, b) ≡ filed m readable (spelled line digits) files
+          → (record { said = said.Answer (Count m.files); after = q }, b) ≡ filed m readable (spelled line digits) files
       unfolding filed
       filed_is h b p q e =
           rw (new, lt-leb 8 m.files few, spells, le-ltb (length files - m.bytes) ((w.to - w.from) / 2) h, e, p, ← is)

@@ -2,6 +2,5 @@
 pub mod LoneStep
 pub mod FileStep
 pub mod MachineStep
-pub mod LoneStepLaws
 pub mod FileStepLaws
 pub mod MachineStepLaws

@@ -28,10 +28,8 @@ pub fn put_bytes(files: &mut [u8], at: usize, digits: &[u8])
     ensures { files.new ≡ put_at files.old at (bytes_of digits.now) }
 {
     let n = digits.len() / 2;
-    let mut i = 0;
-    while i < n {
+    for i in 0..n {
         files[at + i] = byte_of(digits[2 * i], digits[2 * i + 1]);
-        i += 1;
     }
 }
 

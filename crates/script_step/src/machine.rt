@@ -7,11 +7,11 @@ ghost use Rattle.script_step.specs.FileStep.{says, faulty, filed, spelled};
 ghost use Rattle.script_step.specs.MachineStep.{Lends, Began, Answers, wanted_as, Stepping};
 
 use crate::file::{in_line, put_bytes};
-use crate::said::Said;
+use crate::said::{Said, Stepped};
 use answer_text::{Answer, written_as};
 use answers::Refusal;
 use call_text::{Asked, Why, whole_fault};
-use model::{Call, Done, FILES, FRAME_BYTES};
+use model::{Call, FILES, FRAME_BYTES};
 use text::Word;
 
 // How much of the lent memory is in use: bytes of frames, files and their bytes; and the files' rows, three words each.
@@ -22,12 +22,6 @@ pub struct Machine {
     pub files: usize,
     pub bytes: usize,
     pub rows: [u64; 24],
-}
-
-#[derive(Clone, Copy)]
-pub struct Stepped {
-    pub said: Said,
-    pub machine: Machine,
 }
 
 impl Machine {
@@ -44,24 +38,27 @@ impl Machine {
         }
     }
 
-    pub fn says(self, said: Said) -> Stepped
+    pub fn says(self, said: Said) -> Stepped<Machine>
         ensures { result ≡ says self said }
     {
-        Stepped {
-            said,
-            machine: self,
-        }
+        Stepped { said, after: self }
     }
 
     // The line as a whole is wrong.
-    fn fails(self, why: Why) -> Stepped
+    fn fails(self, why: Why) -> Stepped<Machine>
         ensures { result ≡ faulty self why }
     {
         self.says(Said::Fault(whole_fault(why)))
     }
 
     // One file more, behind the others; its bytes are a word of the line.
-    pub fn file(self, readable: bool, line: &[u8], digits: Word, files: &mut [u8]) -> Stepped
+    pub fn file(
+        self,
+        readable: bool,
+        line: &[u8],
+        digits: Word,
+        files: &mut [u8],
+    ) -> Stepped<Machine>
         requires { self.bytes ≤ length files.old }
         ensures { (result, files.new) ≡ filed self readable (spelled line.now digits) files.old }
     {
@@ -82,12 +79,18 @@ impl Machine {
         put_bytes(files, bytes, &line[from..to]);
         Stepped {
             said: Said::Answer(Answer::Count(self.files as u64)),
-            machine: self.with_file(readable, len),
+            after: self.with_file(readable, len),
         }
     }
 
     // Begins anew with so many frames. The files stay; a refused start leaves what was.
-    pub fn start(self, count: u64, words: &mut [u64], frames: &[u8], files: &[u8]) -> Stepped
+    pub fn start(
+        self,
+        count: u64,
+        words: &mut [u64],
+        frames: &[u8],
+        files: &[u8],
+    ) -> Stepped<Machine>
         requires { Lends self (length frames.now) (length files.now) }
         ensures { Began self count words.old frames.now files.now words.new result }
     {
@@ -100,9 +103,9 @@ impl Machine {
         let k = self.files * 3;
         let rows = self.rows;
         match calls::start(words, &frames[..n], &files[..b], &rows[..k]) {
-            Done::Yes => Stepped {
+            Ok(()) => Stepped {
                 said: Said::Answer(Answer::Done),
-                machine: Machine {
+                after: Machine {
                     started: true,
                     frames: n,
                     files: self.files,
@@ -110,7 +113,7 @@ impl Machine {
                     rows,
                 },
             },
-            Done::No(why) => self.says(Said::Answer(Answer::Refused(why))),
+            Err(why) => self.says(Said::Answer(Answer::Refused(why))),
         }
     }
 
@@ -162,10 +165,10 @@ pub fn step(
     frames: &mut [u8],
     files: &mut [u8],
     starts: &mut [u64],
-) -> Stepped
+) -> Stepped<Machine>
     requires { Lends machine (length frames.old) (length files.old) }
     ensures stepping { Stepping machine asked line.now words.old frames.old files.old starts.old words.new frames.new files.new starts.new result }
-    ensures lends { Lends result.machine (length frames.old) (length files.old) }
+    ensures lends { Lends result.after (length frames.old) (length files.old) }
 {
     match asked {
         Asked::Nothing => machine.says(Said::Nothing),

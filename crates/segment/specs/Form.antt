@@ -1,10 +1,9 @@
 -- A segment by itself: its form, its place in list order, and what it overlaps.
-use Rattle.std.specs.Prelude.{Bool, not, ◌&&◌, ◌||◌, cond, true, false, ℕ, ◌+◌, ◌-◌, ◌^◌, ◌≤◌, ◌<◌, eqb, ltb, leb, ◌≡◌, ◌⊎◌}
+use Rattle.std.specs.Prelude.{Bool, not, ◌&&◌, ◌||◌, cond, true, false, ℕ, ◌+◌, ◌-◌, ◌^◌, ◌≤◌, ◌<◌, eqb, ltb, leb, ◌≡◌, ◌⊎◌, Result, Ok, Err, ⊤}
+use Rattle.answers.specs.declared.Refusal.{Refusal}
 use Rattle.answers.specs.declared.Refusal.TheVariants.{BadAddress, BadRange}
 use Rattle.address.specs.Canonical.{canonical}
 use Rattle.segment.specs.declared.Segment.{Segment}
-use Rattle.segment.specs.declared.Answered.{Answered}
-use Rattle.segment.specs.declared.Answered.TheVariants.{Done, Refused}
 
 abbrev pub start_of : Segment → ℕ
 start_of s = s.start.0
@@ -22,8 +21,8 @@ unfoldable pub in_half : Segment → Bool
 in_half s = cond (ltb (start_of s) (2 ^ 47)) (ltb (last_of s) (2 ^ 47)) (ltb (last_of s) (2 ^ 64))
 
 -- the test of form: BadAddress, then BadRange (RULES E3, S2); an empty one needs its start alone
-unfoldable pub form_of : Segment → Answered
-form_of s = cond (canonical (start_of s)) (cond (emptyb s) Done (cond (in_half s) Done (Refused BadRange))) (Refused BadAddress)
+unfoldable pub form_of : Segment → Result ⊤ Refusal
+form_of s = cond (canonical (start_of s)) (cond (emptyb s) (Ok tt) (cond (in_half s) (Ok tt) (Err BadRange))) (Err BadAddress)
 
 abbrev pub sameb : Segment → Segment → Bool
 sameb a b = eqb (start_of a) (start_of b) && eqb a.len b.len
@@ -37,9 +36,9 @@ abbrev pub overb : Segment → ℕ → ℕ → Bool
 overb s first last = not (emptyb s) && (leb first (last_of s) && leb (start_of s) last)
 
 -- whether an answer is no refusal
-abbrev pub done : Answered → Bool
-done Done = true
-done (Refused r) = false
+abbrev pub done : Result ⊤ Refusal → Bool
+done (Ok tt) = true
+done (Err r) = false
 
 -- the same three as propositions
 pub record Same (a b : Segment) : Type 0 where

@@ -1,11 +1,10 @@
 -- Laws of `Form`: a segment by itself: its form, its place in list order, and what it overlaps.
-use Rattle.std.specs.Prelude.{◌≡◌, refl, ℕ, ◌-◌, ◌^◌, ◌≤◌, ◌<◌, eqb, ltb, leb}
+use Rattle.std.specs.Prelude.{◌≡◌, refl, ℕ, ◌-◌, ◌^◌, ◌≤◌, ◌<◌, eqb, ltb, leb, Ok, Err}
 use Rattle.std.proofs.Common.{ap, sym, ◌∙◌, arith}
 use mathlib.Core.Bool.{Bool, true, false, cond}
 use Rattle.answers.specs.declared.Refusal.TheVariants.{BadAddress, BadRange}
 use Rattle.address.specs.Canonical.{canonical}
 use Rattle.segment.specs.declared.Segment.{Segment}
-use Rattle.segment.specs.declared.Answered.TheVariants.{Done, Refused}
 use Rattle.segment.specs.Form.{start_of, last_of, in_half, form_of, sameb, beforeb, overb, done, Same, Before, Over}
 use borrow.Author.Tests.{eqb-true, eqb-false, ltb-true, ltb-false, eq-eqb, ne_eqb, lt-ltb, le-ltb}
 use Rattle.laws.specs.Tells.{Tells}
@@ -62,17 +61,17 @@ module _ (s : Segment) (first last : ℕ) where
 -- ---- form
 
 module _ (s : Segment) where
-  pub form_address : canonical (start_of s) ≡ false → Refused BadAddress ≡ form_of s
+  pub form_address : canonical (start_of s) ≡ false → Err BadAddress ≡ form_of s
   unfolding form_of
   form_address e = rw e
 
   module _ (c : canonical (start_of s) ≡ true) where
-    pub form_empty : s.len ≡ 0 → Done ≡ form_of s
+    pub form_empty : s.len ≡ 0 → Ok tt ≡ form_of s
     unfolding form_of
     form_empty e = rw (c, eq-eqb s.len 0 e)
 
     module _ (n : s.len ≡ 0 → ⊥) where
-      form_half : (b : Bool) → in_half s ≡ b → cond b Done (Refused BadRange) ≡ form_of s
+      form_half : (b : Bool) → in_half s ≡ b → cond b (Ok tt) (Err BadRange) ≡ form_of s
       unfolding form_of
       form_half b e = rw (c, ne_eqb s.len 0 n, e)
 
@@ -84,26 +83,26 @@ module _ (s : Segment) where
       unfolding in_half
       half_high h = rw (le-ltb (start_of s) (2 ^ 47) h)
 
-      pub form_low : start_of s < 2 ^ 47 → s.len ≤ 2 ^ 47 - start_of s → Done ≡ form_of s
+      pub form_low : start_of s < 2 ^ 47 → s.len ≤ 2 ^ 47 - start_of s → Ok tt ≡ form_of s
       form_low h l = form_half true (half_low h ∙ lt-ltb (last_of s) (2 ^ 47) (omega arith))
 
-      pub form_low_past : start_of s < 2 ^ 47 → 2 ^ 47 - start_of s < s.len → Refused BadRange ≡ form_of s
+      pub form_low_past : start_of s < 2 ^ 47 → 2 ^ 47 - start_of s < s.len → Err BadRange ≡ form_of s
       form_low_past h l = form_half false (half_low h ∙ le-ltb (last_of s) (2 ^ 47) (omega arith))
 
-      pub form_high : 2 ^ 47 ≤ start_of s → start_of s < 2 ^ 64 → s.len - 1 ≤ 18446744073709551615 - start_of s → Done ≡ form_of s
+      pub form_high : 2 ^ 47 ≤ start_of s → start_of s < 2 ^ 64 → s.len - 1 ≤ 18446744073709551615 - start_of s → Ok tt ≡ form_of s
       form_high h f l = form_half true (half_high h ∙ lt-ltb (last_of s) (2 ^ 64) (omega arith))
 
-      pub form_high_past : 2 ^ 47 ≤ start_of s → start_of s < 2 ^ 64 → 18446744073709551615 - start_of s < s.len - 1 → Refused BadRange ≡ form_of s
+      pub form_high_past : 2 ^ 47 ≤ start_of s → start_of s < 2 ^ 64 → 18446744073709551615 - start_of s < s.len - 1 → Err BadRange ≡ form_of s
       form_high_past h f l = form_half false (half_high h ∙ le-ltb (last_of s) (2 ^ 64) (omega arith))
 
 -- a well-formed segment's last byte is an address
-pub form_last : (s : Segment) → start_of s < 2 ^ 64 → form_of s ≡ Done → last_of s < 2 ^ 64
+pub form_last : (s : Segment) → start_of s < 2 ^ 64 → form_of s ≡ Ok tt → last_of s < 2 ^ 64
 form_last s f e = by_len (eqb s.len 0) refl
   where
-    clash : {A : Type 0} → Refused BadRange ≡ form_of s → A
+    clash : {A : Type 0} → Err BadRange ≡ form_of s → A
     clash p = absurd (mathlib.Core.Bool.false≢true (ap done (p ∙ e)))
 
-    clash_address : {A : Type 0} → Refused BadAddress ≡ form_of s → A
+    clash_address : {A : Type 0} → Err BadAddress ≡ form_of s → A
     clash_address p = absurd (mathlib.Core.Bool.false≢true (ap done (p ∙ e)))
 
     in_half_is : (x : Bool) → ltb (last_of s) (2 ^ 64) ≡ x → (k : Bool) → canonical (start_of s) ≡ k → (h : Bool) → ltb (start_of s) (2 ^ 47) ≡ h → (s.len ≡ 0 → ⊥) → last_of s < 2 ^ 64

@@ -8,17 +8,10 @@ use address::VirtAddr;
 use answers::Refusal;
 
 // `len` bytes from `start` on.
-#[derive(Clone, Copy)]
+#[derive(Clone, Copy, Debug, PartialEq, Eq, PartialOrd, Ord)]
 pub struct Segment {
     pub start: VirtAddr,
     pub len: u64,
-}
-
-// The answer of a call that gives nothing back.
-#[derive(Clone, Copy)]
-pub enum Answered {
-    Done,
-    Refused(Refusal),
 }
 
 impl Segment {
@@ -29,49 +22,41 @@ impl Segment {
     }
 
     // The test of form: BadAddress if it starts at no canonical address, BadRange if its bytes leave that canonical half.
-    pub fn form(self) -> Answered
+    pub fn form(self) -> Result<(), Refusal>
         ensures { result ≡ form_of self }
     {
         let start = self.start;
         let len = self.len;
         if !start.is_canonical() {
-            return Answered::Refused(Refusal::BadAddress);
+            return Err(Refusal::BadAddress);
         }
         if len == 0 {
-            return Answered::Done;
+            return Ok(());
         }
         if start.0 < 0x8000_0000_0000 {
             if len <= 0x8000_0000_0000 - start.0 {
-                return Answered::Done;
+                return Ok(());
             }
-            return Answered::Refused(Refusal::BadRange);
+            return Err(Refusal::BadRange);
         }
         if len - 1 <= 0xffff_ffff_ffff_ffff - start.0 {
-            return Answered::Done;
+            return Ok(());
         }
-        Answered::Refused(Refusal::BadRange)
+        Err(Refusal::BadRange)
     }
 
     // Whether both are the same segment.
     pub fn is(self, other: Segment) -> bool
         ensures { result ≡ sameb self other }
     {
-        if self.start.0 == other.start.0 {
-            self.len == other.len
-        } else {
-            false
-        }
+        self == other
     }
 
     // Whether it comes before another in a list: by start, then length.
     pub fn comes_before(self, other: Segment) -> bool
         ensures { result ≡ beforeb self other }
     {
-        if self.start.0 == other.start.0 {
-            self.len < other.len
-        } else {
-            self.start.0 < other.start.0
-        }
+        self < other
     }
 
     // Whether it holds a byte of the addresses from `first` to `last`, both included.

@@ -1,23 +1,15 @@
 -- The segment table as lent rows (RULES J8, X8): what the calls on them answer and leave, and the steps that their loops go by.
-use Rattle.std.specs.Prelude.{Bool, true, false, not, ◌&&◌, cond, List, ◌++◌, ℕ, zero, suc, ◌+◌, ◌-◌, ltb, leb, eqb, length, take, drop, get_or, set}
+use Rattle.std.specs.Prelude.{Bool, true, false, not, ◌&&◌, cond, List, ◌++◌, ℕ, zero, suc, ◌+◌, ◌-◌, ltb, leb, eqb, length, take, drop, get_or, set, Option}
 use Rattle.segment.specs.declared.Segment.{Segment}
-use Rattle.segment.specs.Form.{sameb, beforeb}
-use Rattle.segments.specs.declared.table.Place.{Place}
-use Rattle.segments.specs.declared.table.Place.TheVariants as place
+use Rattle.segment.specs.Form.{beforeb}
 use Rattle.segments.specs.Table.{insert, removed_at, place_of, no_segment}
 use Rattle.segment_records.specs.declared.by_value.Insertion.{Insertion}
-use Rattle.segment_records.specs.declared.by_value.Stands.{Stands}
-use Rattle.segment_records.specs.declared.by_value.Stands.TheVariants.{At, Nothing}
 
 -- ---- the calls
 
--- the by-value table's place, as it is answered
-abbrev pub answered : Place → Stands
-answered (place.At i) = At i
-answered place.Nothing = Nothing
-
-abbrev pub found_in : List Segment → Segment → Stands
-found_in t s = answered (place_of t s 0)
+-- the by-value table's place
+abbrev pub found_in : List Segment → Segment → Option ℕ
+found_in t s = place_of t s 0
 
 -- the first n rows with a segment put in; the row after them is lost, and all further ones stay
 abbrev pub inserted : ℕ → Segment → List Segment → List Segment
@@ -59,14 +51,3 @@ move_down (suc k) i t = move_down k (i + 1) (set t i (get_or t (i + 1) no_segmen
 
 abbrev pub rows_of : ℕ → ℕ → ℕ
 rows_of len n = cond (ltb n len) n len
-
-abbrev pub place_with : ℕ → ℕ → Segment → Segment → ℕ
-place_with at i x s = cond (sameb x s) i at
-
--- the first k rows from the last on
-unfoldable pub look_down : ℕ → ℕ → Segment → List Segment → ℕ
-look_down zero at s t = at
-look_down (suc k) at s t = look_down k (place_with at k (get_or t k no_segment) s) s t
-
-abbrev pub found_at : ℕ → ℕ → Stands
-found_at at n = cond (ltb at n) (At at) Nothing

@@ -1,7 +1,7 @@
 -- Laws of `Records`: each step as the code takes it, and what the loops leave is the by-value table's.
-use Rattle.std.specs.Prelude.{◌≡◌, Bool, leb, take, set}
+use Rattle.std.specs.Prelude.{◌≡◌, Bool, leb, take, set, Some, None}
 use Rattle.std.proofs.Math.Path.{refl, ap, sym}
-use Rattle.std.proofs.Common.{◌∙◌, zero-add, le_of_suc-le-suc, not-suc-le-zero, add-one, length-append, length-drop, take-append-drop, take-suc, take_all, take-take, drop-drop, get_or-append-add}
+use Rattle.std.proofs.Common.{◌∙◌, zero-add, le_of_suc-le-suc, not-suc-le-zero, add-one, length-append, length-drop, take-append-drop, take_all, take-take, drop-drop, get_or-append-add, get_or-take}
 use Rattle.std.proofs.Math.Bool.{true, false, cond}
 use mathlib.Core.List.{[], List, ◌∷◌, ◌++◌, append_assoc}
 use Prim.Native.Nat.{ℕ, zero, suc, ◌+◌, ◌-◌, ◌≤◌, ◌<◌}
@@ -11,14 +11,13 @@ use Rattle.std.proofs.Math.ListN.{length, drop, get_or}
 use Rattle.std.proofs.Math.Seq.{take-nil, length-take-le, get_or-append_seam, set-append_seam}
 use borrow.Author.Tests.{eq-eqb, ne_eqb, lt-ltb, le-ltb, ltb-true, ltb-false, leb-true}
 use Rattle.laws.specs.BoolLaws.{both_true}
+use Rattle.laws.specs.Loops.{Remains}
+use Rattle.laws.specs.LoopLaws.{loop_found, loop_more, loop_none}
 use Rattle.segment.specs.declared.Segment.{Segment}
 use Rattle.segment.specs.Form.{sameb, beforeb}
-use Rattle.segments.specs.declared.table.Place.{Place}
-use Rattle.segments.specs.declared.table.Place.TheVariants as place
 use Rattle.segments.specs.Table.{insert, removed_at, place_of, no_segment}
 use Rattle.segment_records.specs.declared.by_value.Insertion.{Insertion}
-use Rattle.segment_records.specs.declared.by_value.Stands.TheVariants.{At, Nothing}
-use Rattle.segment_records.specs.Records.{answered, found_in, inserted, removable, removed, turns_of, carrying_of, stays_of, carried_on, carry_over, end_of, move_down, rows_of, place_with, look_down, found_at}
+use Rattle.segment_records.specs.Records.{found_in, inserted, removable, removed, turns_of, carrying_of, stays_of, carried_on, carry_over, end_of, move_down, rows_of}
 
 -- ---- the steps
 
@@ -68,20 +67,6 @@ module _ (c : Insertion) (i n : ℕ) (x : Segment) where
 
     pub carried_put : r ≡ false → record { row = c.carry; carry = x; placed = true } ≡ carried_on c i n x
     carried_put e = rw (sym said, e)
-
-module _ (at i : ℕ) (x s : Segment) (r : Bool) (said : r ≡ sameb x s) where
-  pub place_here : r ≡ true → i ≡ place_with at i x s
-  place_here e = rw (sym said, e)
-
-  pub place_past : r ≡ false → at ≡ place_with at i x s
-  place_past e = rw (sym said, e)
-
-module _ (at n : ℕ) where
-  pub found_some : at < n → At at ≡ found_at at n
-  found_some h = rw (lt-ltb at n h)
-
-  pub found_none : n ≤ at → Nothing ≡ found_at at n
-  found_none h = rw (le-ltb at n h)
 
 -- ---- an insertion over rows
 
@@ -213,64 +198,45 @@ module _ (n at : ℕ) (t : List Segment) where
       by true e g h = let r = removable_inside (length t) n at e in let l = r.1 in omega arith
       by false e g h = omega arith
 
--- ---- a search over rows
-
--- where a place is, and `d` where there is none
-abbrev or_else : Place → ℕ → ℕ
-or_else (place.At i) d = i
-or_else place.Nothing d = d
-
-module _ (s : Segment) where
-  -- one row more at the end
-  place_more : (t : List Segment) (x : Segment) (i d : ℕ) → or_else (place_of (t ++ (x ∷ [])) s i) d ≡ or_else (place_of t s i) (cond (sameb x s) (i + length t) d)
-  unfolding place_of
-  place_more [] x i d = by (sameb x s)
-    where
-      by : (b : Bool) → or_else (cond b (place.At i) place.Nothing) d ≡ cond b (i + 0) d
-      by true = omega arith
-      by false = refl
-  place_more (y ∷ t) x i d = by (sameb y s) (place_more t x (i + 1) d ∙ ap (λ (k : ℕ). or_else (place_of t s (i + 1)) (cond (sameb x s) k d)) (let e : i + 1 + length t ≡ i + suc (length t) = omega arith in e))
-    where
-      by : (b : Bool) → or_else (place_of (t ++ (x ∷ [])) s (i + 1)) d ≡ or_else (place_of t s (i + 1)) (cond (sameb x s) (i + suc (length t)) d)
-          → or_else (cond b (place.At i) (place_of (t ++ (x ∷ [])) s (i + 1))) d ≡ or_else (cond b (place.At i) (place_of t s (i + 1))) (cond (sameb x s) (i + suc (length t)) d)
-      by true later = refl
-      by false later = later
-
-  look_is : (k at : ℕ) (t : List Segment) → k ≤ length t → look_down k at s t ≡ or_else (place_of (take k t) s 0) at
-  unfolding look_down place_of
-  look_is zero at t h = refl
-  look_is (suc k) at t h =
-      look_is k (place_with at k x s) t (omega arith)
-      ∙ ap (λ (j : ℕ). or_else (place_of (take k t) s 0) (cond (sameb x s) j at)) (let e = length-take-le k t (omega arith) in let f : k ≡ 0 + length (take k t) = omega arith in f)
-      ∙ sym (place_more (take k t) x 0 at)
-      ∙ ap (λ u. or_else (place_of u s 0) at) (sym (take-suc t k no_segment h))
-    where
-      x : Segment
-      x = get_or t k no_segment
-
-  -- a place is one of the rows
-  place_inside : (t : List Segment) (i n : ℕ) → i + length t ≤ n → found_at (or_else (place_of t s i) n) n ≡ answered (place_of t s i)
-  unfolding place_of
-  place_inside [] i n h = sym (found_none n n (omega arith))
-  place_inside (x ∷ t) i n h = by (sameb x s) (place_inside t (i + 1) n (omega arith))
-    where
-      by : (b : Bool) → found_at (or_else (place_of t s (i + 1)) n) n ≡ answered (place_of t s (i + 1)) → found_at (or_else (cond b (place.At i) (place_of t s (i + 1))) n) n ≡ answered (cond b (place.At i) (place_of t s (i + 1)))
-      by true later = sym (found_some i n (omega arith))
-      by false later = later
-
-  pub find_all : (n : ℕ) (t : List Segment) → found_at (look_down (rows_of (length t) n) (rows_of (length t) n) s t) (rows_of (length t) n) ≡ found_in (take n t) s
-  find_all n t = by (ltb n (length t)) refl
-    where
-      some : (k : ℕ) → k ≤ length t → found_at (look_down k k s t) k ≡ found_in (take k t) s
-      some k h = ap (λ (j : ℕ). found_at j k) (look_is k k t h) ∙ place_inside (take k t) 0 k (let e = length-take-le k t h in omega arith)
-
-      by : (b : Bool) → ltb n (length t) ≡ b → found_at (look_down (cond b n (length t)) (cond b n (length t)) s t) (cond b n (length t)) ≡ found_in (take n t) s
-      by true e = some n (let h = ltb-true n (length t) e in omega arith)
-      by false e = some (length t) (omega arith) ∙ ap (λ u. found_in u s) (take_all (length t) t (omega arith) ∙ sym (take_all n t (ltb-false n (length t) e)))
-
 pub rows_most : (len n : ℕ) → rows_of len n ≤ len
 rows_most len n = by (ltb n len) refl
   where
     by : (b : Bool) → ltb n len ≡ b → cond b n len ≤ len
     by true e = let h = ltb-true n len e in omega arith
     by false e = omega arith
+
+-- ---- a segment looked for in the first rows; as many are looked at as there are
+
+pub rows_length : (n : ℕ) (t : List Segment) → length (take n t) ≡ rows_of (length t) n
+rows_length n t = by (ltb n (length t)) refl
+  where
+    by : (b : Bool) → ltb n (length t) ≡ b → length (take n t) ≡ cond b n (length t)
+    by true e = let h = ltb-true n (length t) e in length-take-le n t (omega arith)
+    by false e = ap (λ u. length u) (take_all n t (ltb-false n (length t) e))
+
+abbrev pub Looked : List Segment → Segment → ℕ → ℕ → Type 0
+Looked t s n i = Remains (λ u. place_of u s i) (take n t) i (found_in (take n t) s)
+
+module _ (t : List Segment) (s : Segment) (n i : ℕ) (inv : Looked t s n i) where
+  module _ (h : i < rows_of (length t) n) (r : Bool) (said : r ≡ sameb (get_or t i no_segment) s) where
+    inside : i < length (take n t)
+    inside = rw (rows_length n t) h
+
+    row : get_or t i no_segment ≡ get_or (take n t) i no_segment
+    row = sym (get_or-take n t i no_segment (by (ltb n (length t)) refl))
+      where
+        by : (b : Bool) → ltb n (length t) ≡ b → i < n
+        by true e = rw e at h
+        by false e = let f = ltb-false n (length t) e in let g : i < length t = rw e at h in omega arith
+
+    pub look_found : r ≡ true → Some i ≡ found_in (take n t) s
+    unfolding place_of
+    look_found e = loop_found (λ u. place_of u s i) (take n t) i (found_in (take n t) s) inv inside no_segment (get_or t i no_segment) row (Some i) (λ u. ap (λ (x : Bool). cond x (Some i) (place_of u s (i + 1))) (sym said ∙ e))
+
+    pub look_more : r ≡ false → Looked t s n (i + 1)
+    unfolding place_of
+    look_more e = loop_more (λ u. place_of u s i) (take n t) i (found_in (take n t) s) inv inside no_segment (get_or t i no_segment) row (λ u. place_of u s (i + 1)) (λ u. ap (λ (x : Bool). cond x (Some i) (place_of u s (i + 1))) (sym said ∙ e))
+
+  pub look_none : rows_of (length t) n ≤ i → None ≡ found_in (take n t) s
+  unfolding place_of
+  look_none h = loop_none (λ u. place_of u s i) (take n t) i (found_in (take n t) s) inv (rw (rows_length n t) h)

@@ -1,6 +1,6 @@
 // What the calls on lent rows decide, by value: how far they go, and what becomes of one row.
 ghost use Rattle.std.specs.Prelude.{◌≡◌};
-ghost use Rattle.segment_records.specs.Records.{turns_of, carrying_of, stays_of, carried_on, removable, end_of, rows_of, place_with, found_at};
+ghost use Rattle.segment_records.specs.Records.{turns_of, carrying_of, stays_of, carried_on, removable, end_of, rows_of};
 
 use segment::Segment;
 
@@ -10,13 +10,6 @@ pub struct Insertion {
     pub row: Segment,
     pub carry: Segment,
     pub placed: bool,
-}
-
-// Where a segment stands among the rows.
-#[derive(Clone, Copy)]
-pub enum Stands {
-    At(usize),
-    Nothing,
 }
 
 // How many rows an insertion goes over: none where `len` rows have no room for one more.
@@ -101,24 +94,4 @@ pub fn rows(len: usize, count: usize) -> usize
         return count;
     }
     len
-}
-
-// The place of a segment from row i on, where `at` is that from the row after it on.
-pub fn place_with(at: usize, i: usize, row: Segment, s: Segment) -> usize
-    ensures { result ≡ place_with at i row s }
-{
-    if row.is(s) {
-        return i;
-    }
-    at
-}
-
-// Where it stands among n rows: nowhere if its place is n.
-pub fn found(at: usize, n: usize) -> Stands
-    ensures { result ≡ found_at at n }
-{
-    if at < n {
-        return Stands::At(at);
-    }
-    Stands::Nothing
 }

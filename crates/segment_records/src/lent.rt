@@ -2,21 +2,20 @@
 ghost use Rattle.std.specs.Prelude.{◌≡◌, ltb, length, take};
 ghost use Rattle.segment_records.specs.Records.{found_in, inserted, removable, removed};
 
-use crate::by_value::{Stands, carried, carrying, end, found, place_with, removes, rows, turns};
+use crate::by_value::{carried, carrying, end, removes, rows, turns};
 use segment::Segment;
 
 // Where a segment stands among the first `count` rows; among all where there are fewer.
-pub fn find(segments: &[Segment], count: usize, s: Segment) -> Stands
+pub fn find(segments: &[Segment], count: usize, s: Segment) -> Option<usize>
     ensures { result ≡ found_in (take count segments.now) s }
 {
-    let n = rows(segments.len(), count);
-    let mut at = n;
-    let mut i = n;
-    while 0 < i {
-        i -= 1;
-        at = place_with(at, i, segments[i], s);
+    let looked = rows(segments.len(), count);
+    for i in 0..looked {
+        if segments[i].is(s) {
+            return Some(i);
+        }
     }
-    found(at, n)
+    None
 }
 
 // Puts a segment in at its place in list order; the rows from there on move up by one. Where there is no room nothing changes.
@@ -25,11 +24,9 @@ pub fn insert(segments: &mut [Segment], count: usize, s: Segment) -> bool
 {
     let n = turns(segments.len(), count);
     let mut c = carrying(s);
-    let mut i = 0;
-    while i < n {
+    for i in 0..n {
         c = carried(c, i, count, segments[i]);
         segments[i] = c.row;
-        i += 1;
     }
     0 < n
 }
@@ -39,10 +36,8 @@ pub fn remove(segments: &mut [Segment], count: usize, at: usize) -> bool
     ensures { (result ≡ removable (length segments.old) count at) × (segments.new ≡ removed count at segments.old) }
 {
     let n = end(segments.len(), count, at);
-    let mut i = at;
-    while i < n {
+    for i in at..n {
         segments[i] = segments[i + 1];
-        i += 1;
     }
     removes(segments.len(), count, at)
 }

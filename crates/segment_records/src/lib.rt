@@ -3,5 +3,3 @@
 
 mod by_value;
 pub mod lent;
-
-pub use by_value::Stands;

@@ -1,7 +1,8 @@
 -- The tries of the search are enough: each start over leaves fewer segments ahead.
+use Rattle.laws.specs.ResultLaws.{none_not_some}
 use Rattle.std.proofs.Math.Path.{◌≡◌, refl}
 use Rattle.std.proofs.Common.{subst, ⊎_elim, not-suc-le-zero}
-use Rattle.std.specs.Prelude.{◌⊎◌, Bool, List, [], ◌∷◌, ltb, length}
+use Rattle.std.specs.Prelude.{◌⊎◌, Bool, List, [], ◌∷◌, ltb, length, Option, Some, None}
 use Rattle.std.proofs.Math.Logic.{inl, inr}
 use Rattle.std.proofs.Math.Bool.{true, false}
 use Prim.Native.Nat.{ℕ, zero, suc, ◌+◌, ◌-◌, ◌≤◌, ◌<◌, zero-le}
@@ -9,8 +10,6 @@ use native.Mathlib.Omega.{arith}
 use Rattle.laws.specs.Tells.{Tells}
 use Rattle.laws.specs.TellsLaws.{tells_both, told, not_told}
 use Rattle.segment.specs.declared.Segment.{Segment}
-use Rattle.segment_search.specs.declared.Found.{Found}
-use Rattle.segment_search.specs.declared.Found.TheVariants.{In, Nothing}
 use Rattle.segment.specs.Form.{start_of, last_of, overb, Over}
 use Rattle.segment.specs.FormLaws.{over_tells}
 use Rattle.laws.specs.TestLaws.{tells_eq, tells_le, tells_not}
@@ -79,24 +78,24 @@ ahead_le t start = count_length (aheadb start) t
 
 module _ (first last : ℕ) where
   -- it is the first row, or the first of the others
-  pub first_cases : (x : Segment) (t : List Segment) (s : Segment) → first_over (x ∷ t) first last ≡ In s
-      → ((overb x first last ≡ true) × (x ≡ s)) ⊎ ((overb x first last ≡ false) × (first_over t first last ≡ In s))
+  pub first_cases : (x : Segment) (t : List Segment) (s : Segment) → first_over (x ∷ t) first last ≡ Some s
+      → ((overb x first last ≡ true) × (x ≡ s)) ⊎ ((overb x first last ≡ false) × (first_over t first last ≡ Some s))
   unfolding first_over
   first_cases x t s e = by_test (overb x first last) (λ o. inl (o, here o)) (λ n. inr (n, rw n at e))
     where
       here : overb x first last ≡ true → x ≡ s
-      here o = let p : In x ≡ In s = rw o at e in cc
+      here o = let p : Some x ≡ Some s = rw o at e in cc
 
-  pub none_first : (s : Segment) → first_over [] first last ≡ In s → ⊥
+  pub none_first : (s : Segment) → first_over [] first last ≡ Some s → ⊥
   unfolding first_over
-  none_first s e = let z : ◌≡◌ {A = ℕ} 0 1 = cc in omega arith
+  none_first s e = none_not_some e
 
-  pub first_over_is : (t : List Segment) (s : Segment) → first_over t first last ≡ In s → Over s first last
+  pub first_over_is : (t : List Segment) (s : Segment) → first_over t first last ≡ Some s → Over s first last
   first_over_is [] s e = absurd (none_first s e)
   first_over_is (x ∷ t) s e = ⊎_elim (λ h. subst (λ (y : Segment). Over y first last) h.1 ((over_tells x first last).yes h.0)) (λ h. first_over_is t s h.1) (first_cases x t s e)
 
   -- past the first in the way there is less ahead
-  pub ahead_falls : (t : List Segment) (s : Segment) → first_over t first last ≡ In s → ahead t (start_of s + s.len) < ahead t first
+  pub ahead_falls : (t : List Segment) (s : Segment) → first_over t first last ≡ Some s → ahead t (start_of s + s.len) < ahead t first
   ahead_falls t s e = falls t e
     where
       o : Over s first last
@@ -108,7 +107,7 @@ module _ (first last : ℕ) where
       behind : aheadb (start_of s + s.len) s ≡ false
       behind = not_told (ahead_tells (start_of s + s.len) s) (λ a. a.0 (omega (arith, a.1)))
 
-      falls : (t : List Segment) → first_over t first last ≡ In s → ahead t (start_of s + s.len) < ahead t first
+      falls : (t : List Segment) → first_over t first last ≡ Some s → ahead t (start_of s + s.len) < ahead t first
       falls [] e = absurd (none_first s e)
       falls (x ∷ t) e = ⊎_elim (λ h. here h.1) (λ h. later (falls t h.1)) (first_cases x t s e)
         where
@@ -131,10 +130,10 @@ module _ (t : List Segment) (last len : ℕ) where
   tries_same (suc n) (suc m) start r h k = same (tries_same n m) (ltb last (start + (len - 1))) (first_over t start (start + (len - 1))) refl
     where
       same : ((start restarts : ℕ) → ahead t start < n → ahead t start < m → tries n t last len start restarts ≡ tries m t last len start restarts)
-          → (b : Bool) (f : Found) → first_over t start (start + (len - 1)) ≡ f → try (tries n t last len) b f start r ≡ try (tries m t last len) b f start r
+          → (b : Bool) (f : Option Segment) → first_over t start (start + (len - 1)) ≡ f → try (tries n t last len) b f start r ≡ try (tries m t last len) b f start r
       same again true f e = refl
-      same again false Nothing e = refl
-      same again false (In s) e = again (start_of s + s.len) (r + 1) (omega (arith, ahead_falls start (start + (len - 1)) t s e)) (omega (arith, ahead_falls start (start + (len - 1)) t s e))
+      same again false None e = refl
+      same again false (Some s) e = again (start_of s + s.len) (r + 1) (omega (arith, ahead_falls start (start + (len - 1)) t s e)) (omega (arith, ahead_falls start (start + (len - 1)) t s e))
 
   pub tries_enough : (n start restarts : ℕ) → ahead t start < n → tries n t last len start restarts ≡ tries (suc (ahead t start)) t last len start restarts
   tries_enough n start r h = tries_same n (suc (ahead t start)) start r h (omega arith)

@@ -8,37 +8,21 @@ ghost use Rattle.segment_search.specs.SegmentWords.{table_of};
 use address::VirtAddr;
 use segment::Segment;
 
-// The segment in the way.
-#[derive(Clone, Copy)]
-pub enum Found {
-    In(Segment),
-    Nothing,
-}
-
-// The lowest free start and how often the search started over.
-#[derive(Clone, Copy)]
-pub enum Search {
-    Free(u64, u64),
-    Full,
-}
-
 // The first of `count` rows that holds a byte from `first` to `last`.
-pub fn find_overlapping_at(words: &[u64], count: usize, first: u64, last: u64) -> Found
+pub fn find_overlapping_at(words: &[u64], count: usize, first: u64, last: u64) -> Option<Segment>
     requires { count * 2 ≤ length words.now }
     ensures { result ≡ first_over (table_of words.now count) first last }
 {
-    let mut i = 0;
-    while i < count {
+    for i in 0..count {
         let s = Segment {
             start: VirtAddr(words[i * 2]),
             len: words[i * 2 + 1],
         };
         if s.overlaps(first, last) {
-            return Found::In(s);
+            return Some(s);
         }
-        i += 1;
     }
-    Found::Nothing
+    None
 }
 
 // The lowest start from `start` on with `len` bytes free up to `mem_last`. It starts over just past the segment in its way;
@@ -50,24 +34,24 @@ pub fn lowest_start(
     len: u64,
     start: u64,
     restarts: u64,
-) -> Search
+) -> Option<(u64, u64)>
     requires count_in_bounds { count * 2 ≤ length words.now }
     requires len_nonzero { 0 < len }
     requires start_bound { restarts + ahead (table_of words.now count) start ≤ count }
     ensures { result ≡ search (table_of words.now count) mem_last len start restarts }
 {
     if mem_last < start {
-        return Search::Full;
+        return None;
     }
     if mem_last - start < len - 1 {
-        return Search::Full;
+        return None;
     }
-    let Found::In(s) = find_overlapping_at(words, count, start, start + (len - 1)) else {
-        return Search::Free(start, restarts);
+    let Some(s) = find_overlapping_at(words, count, start, start + (len - 1)) else {
+        return Some((start, restarts));
     };
     let past = s.len;
     if mem_last - s.start.0 < past {
-        return Search::Full;
+        return None;
     }
     lowest_start(words, count, mem_last, len, s.start.0 + past, restarts + 1)
 }

@@ -1,5 +1,5 @@
 -- Every call keeps the rule of the table and its 64 rows.
-use Rattle.std.specs.Prelude.{◌≡◌, refl, ◌⊎◌, List, [], ◌∷◌, ℕ, ◌≤◌, ◌<◌, eqb, ltb, length, drop}
+use Rattle.std.specs.Prelude.{◌≡◌, refl, ◌⊎◌, List, [], ◌∷◌, ℕ, ◌≤◌, ◌<◌, eqb, ltb, length, drop, Option, Some, None}
 use Rattle.std.proofs.Common.{sym, ap, subst, ◌∙◌, inl, inr, ⊎_elim, arith, length-append, length-take, length-drop, ltb-true, ltb-false, eqb-true}
 use mathlib.Core.Bool.{true, false}
 use Rattle.std.proofs.lemmas.List.{length-replicate}
@@ -8,8 +8,6 @@ use Rattle.std.proofs.lemmas.Bool.{eqb-false}
 use Rattle.address.specs.declared.VirtAddr.{VirtAddr}
 use Rattle.address.specs.Canonical.{canonical}
 use Rattle.segment.specs.declared.Segment.{Segment}
-use Rattle.segment_search.specs.declared.Found.{Found}
-use Rattle.segment_search.specs.declared.Found.TheVariants.{In, Nothing}
 use Rattle.segments.specs.declared.table.VirtualMemoryManager.{VirtualMemoryManager}
 use Rattle.segment.specs.Form.{start_of, last_of, emptyb, form_of, sameb, Same, Over}
 use Rattle.segment.specs.FormLaws.{same_tells}
@@ -75,9 +73,9 @@ mark_beside : (s : Segment) (t : List Segment) → overlapsb t s ≡ false → h
 unfolding overlapsb
 mark_beside s t o h = by_test (emptyb s) none some
   where
-    nothing : (f : Found) → is_in f ≡ false → f ≡ Nothing
-    nothing Nothing e = refl
-    nothing (In x) e = absurd (mathlib.Core.Bool.true≢false e)
+    nothing : (f : Option Segment) → is_in f ≡ false → f ≡ None
+    nothing None e = refl
+    nothing (Some x) e = absurd (mathlib.Core.Bool.true≢false e)
 
     none : emptyb s ≡ true → All (Beside s) t
     none e = all_map (λ x n. record { other = n; disjoint = inr (inl (eqb-true s.len 0 e)) }) t (held_none s t h)

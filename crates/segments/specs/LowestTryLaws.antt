@@ -1,7 +1,8 @@
 -- The tries from a start on answer the lowest clear start at or above it.
+use Rattle.laws.specs.ResultLaws.{some_not_none}
 use Rattle.std.proofs.Math.Path.{◌≡◌, refl}
 use Rattle.std.proofs.Common.{subst, ⊎_elim, not-suc-le-zero}
-use Rattle.std.specs.Prelude.{Bool}
+use Rattle.std.specs.Prelude.{Bool, Option, Some, None}
 use Rattle.std.proofs.Math.Bool.{true, false}
 use mathlib.Core.List.{List, [], ◌∷◌}
 use Prim.Native.Nat.{ℕ, zero, suc, ◌+◌, ◌-◌, ◌≤◌, ◌<◌}
@@ -9,10 +10,6 @@ use native.Mathlib.Omega.{arith}
 use Rattle.std.proofs.Math.Dec.{ltb}
 use borrow.Author.Tests.{ltb-true, ltb-false}
 use Rattle.segment.specs.declared.Segment.{Segment}
-use Rattle.segment_search.specs.declared.Found.{Found}
-use Rattle.segment_search.specs.declared.Found.TheVariants.{In, Nothing}
-use Rattle.segment_search.specs.declared.Search.{Search}
-use Rattle.segment_search.specs.declared.Search.TheVariants.{Free, Full}
 use Rattle.segment.specs.Form.{start_of, overb, Over}
 use Rattle.segment.specs.FormLaws.{over_tells}
 use Rattle.segments.specs.Table.{All}
@@ -24,28 +21,28 @@ use Rattle.segments.specs.FreeStart.{Clear}
 
 module _ (first last : ℕ) where
   -- what holds of all holds of the first in the way
-  pub first_of_all : (P : Segment → Type 0) (t : List Segment) (s : Segment) → first_over t first last ≡ In s → All P t → P s
+  pub first_of_all : (P : Segment → Type 0) (t : List Segment) (s : Segment) → first_over t first last ≡ Some s → All P t → P s
   first_of_all P [] s e h = absurd (none_first first last s e)
   first_of_all P (x ∷ t) s e h = ⊎_elim (λ k. subst P k.1 h.0) (λ k. first_of_all P t s k.1 h.1) (first_cases first last x t s e)
 
-  pub none_over : (t : List Segment) → first_over t first last ≡ Nothing → All (λ s. Over s first last → ⊥) t
+  pub none_over : (t : List Segment) → first_over t first last ≡ None → All (λ s. Over s first last → ⊥) t
   unfolding first_over
   none_over [] e = tt
   none_over (x ∷ t) e = by_test (overb x first last) (λ o. absurd (clash o)) (λ n. ((over_tells x first last).no n, none_over t (rw n at e)))
     where
       clash : overb x first last ≡ true → ⊥
-      clash o = let p : In x ≡ Nothing = rw o at e in let z : ◌≡◌ {A = ℕ} 0 1 = cc in omega arith
+      clash o = some_not_none (rw o at e)
 
 -- ---- the lowest
 
 module _ (t : List Segment) (last len : ℕ) where
   -- what the search from `start` on must answer
-  abbrev pub Right : ℕ → Search → Type 0
-  Right start (Free a r) = (start ≤ a) × (a + (len - 1) ≤ last) × Clear t len a × ((x : ℕ) → start ≤ x → x < a → Clear t len x → ⊥)
-  Right start Full = (x : ℕ) → start ≤ x → x + (len - 1) ≤ last → Clear t len x → ⊥
+  abbrev pub Right : ℕ → Option (ℕ × ℕ) → Type 0
+  Right start (Some (a, r)) = (start ≤ a) × (a + (len - 1) ≤ last) × Clear t len a × ((x : ℕ) → start ≤ x → x < a → Clear t len x → ⊥)
+  Right start None = (x : ℕ) → start ≤ x → x + (len - 1) ≤ last → Clear t len x → ⊥
 
   -- no start up to the end of the first in the way is clear
-  passes : (start : ℕ) (s : Segment) → first_over t start (start + (len - 1)) ≡ In s → (x : ℕ) → start ≤ x → x < start_of s + s.len → Clear t len x → ⊥
+  passes : (start : ℕ) (s : Segment) → first_over t start (start + (len - 1)) ≡ Some s → (x : ℕ) → start ≤ x → x < start_of s + s.len → Clear t len x → ⊥
   passes start s e x l h c =
       first_of_all start (start + (len - 1)) (λ y. Over y x (x + (len - 1)) → ⊥) t s e c (record { some = o.some; reaches = omega arith; begins = omega (arith, o.begins) })
     where
@@ -58,10 +55,10 @@ module _ (t : List Segment) (last len : ℕ) where
   tries_right (suc n) start r h = one (tries_right n) (ltb last (start + (len - 1))) refl (first_over t start (start + (len - 1))) refl
     where
       one : ((start restarts : ℕ) → ahead t start < n → Right start (tries n t last len start restarts))
-          → (b : Bool) → ltb last (start + (len - 1)) ≡ b → (f : Found) → first_over t start (start + (len - 1)) ≡ f → Right start (try (tries n t last len) b f start r)
+          → (b : Bool) → ltb last (start + (len - 1)) ≡ b → (f : Option Segment) → first_over t start (start + (len - 1)) ≡ f → Right start (try (tries n t last len) b f start r)
       one again true b f e = λ x l k c. omega (arith, ltb-true last (start + (len - 1)) b)
-      one again false b Nothing e = (omega arith, ltb-false last (start + (len - 1)) b, none_over start (start + (len - 1)) t e, λ x l k c. omega arith)
-      one again false b (In s) e =
+      one again false b None e = (omega arith, ltb-false last (start + (len - 1)) b, none_over start (start + (len - 1)) t e, λ x l k c. omega arith)
+      one again false b (Some s) e =
           later (tries n t last len (start_of s + s.len) (r + 1)) (again (start_of s + s.len) (r + 1) (omega (arith, ahead_falls start (start + (len - 1)) t s e)))
         where
           o : Over s start (start + (len - 1))
@@ -71,6 +68,6 @@ module _ (t : List Segment) (last len : ℕ) where
           skip x l c =
               by_test (ltb x (start_of s + s.len)) (λ h. absurd (passes start s e x l (ltb-true x (start_of s + s.len) h) c)) (ltb-false x (start_of s + s.len))
 
-          later : (f : Search) → Right (start_of s + s.len) f → Right start f
-          later Full k = λ x l h c. k x (skip x l c) h c
-          later (Free a r) k = (omega (arith, o.reaches, k.0), k.1, k.2, λ x l h c. k.3 x (skip x l c) h c)
+          later : (f : Option (ℕ × ℕ)) → Right (start_of s + s.len) f → Right start f
+          later None k = λ x l h c. k x (skip x l c) h c
+          later (Some (a, r)) k = (omega (arith, o.reaches, k.0), k.1, k.2, λ x l h c. k.3 x (skip x l c) h c)

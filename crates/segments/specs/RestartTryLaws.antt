@@ -1,16 +1,14 @@
 -- The tries from a start on start over once for each segment passed.
 use Rattle.std.proofs.Math.Path.{◌≡◌, refl, ap}
 use Rattle.std.proofs.Common.{sym, subst, ◌∙◌, inl, inr, ⊎_elim, not-suc-le-zero}
-use Rattle.std.specs.Prelude.{◌⊎◌, Bool, List, [], ◌∷◌, ltb}
+use Rattle.std.specs.Prelude.{◌⊎◌, Bool, List, [], ◌∷◌, ltb, Option, Some, None}
 use Rattle.std.proofs.Math.Bool.{true, false}
 use Prim.Native.Nat.{ℕ, zero, suc, ◌+◌, ◌-◌, ◌≤◌, ◌<◌}
 use native.Mathlib.Omega.{arith}
 use Rattle.laws.specs.Tells.{Tells}
 use Rattle.laws.specs.TellsLaws.{tells_both, told, not_told, tells_same}
+use Rattle.laws.specs.ResultLaws.{none_not_some, some_same}
 use Rattle.segment.specs.declared.Segment.{Segment}
-use Rattle.segment_search.specs.declared.Found.{Found}
-use Rattle.segment_search.specs.declared.Found.TheVariants.{In, Nothing}
-use Rattle.segment_search.specs.declared.Search.TheVariants.{Free}
 use Rattle.segment.specs.Form.{start_of, last_of, overb, Before, Over}
 use Rattle.segment.specs.FormLaws.{over_tells}
 use Rattle.laws.specs.TestLaws.{tells_eq, tells_lt, tells_le, tells_not, tells_as}
@@ -49,7 +47,7 @@ module _ (start last a : ℕ) (s : Segment) (o : Over s start last) (past : star
       (passed_tells (start_of s + s.len) a x)
 
   -- past the first in the way there is one passed less
-  passed_falls : (t : List Segment) → Pairs Apart t → first_over t start last ≡ In s → count (passedb start a) t ≡ suc (count (passedb (start_of s + s.len) a) t)
+  passed_falls : (t : List Segment) → Pairs Apart t → first_over t start last ≡ Some s → count (passedb start a) t ≡ suc (count (passedb (start_of s + s.len) a) t)
   passed_falls [] ps e = absurd (none_first start last s e)
   passed_falls (x ∷ t) ps e = ⊎_elim (λ h. here h.1) (λ h. later h.0 h.1 (passed_falls t ps.1 h.1)) (first_cases start last x t s e)
     where
@@ -80,7 +78,7 @@ module _ (start last a : ℕ) (s : Segment) (o : Over s start last) (past : star
           begin (inl l) = omega (arith, o.begins)
           begin (inr l) = omega (arith, o.begins)
 
-      later : overb x start last ≡ false → first_over t start last ≡ In s → count (passedb start a) t ≡ suc (count (passedb (start_of s + s.len) a) t)
+      later : overb x start last ≡ false → first_over t start last ≡ Some s → count (passedb start a) t ≡ suc (count (passedb (start_of s + s.len) a) t)
           → count (passedb start a) (x ∷ t) ≡ suc (count (passedb (start_of s + s.len) a) (x ∷ t))
       later n e l =
           by_test (passedb start a x) (λ y. absurd (earlier n before ((passed_tells start a x).yes y))) (λ z. rw (count_no (passedb start a) x t z, count_no (passedb (start_of s + s.len) a) x t (sym same ∙ z)) l)
@@ -93,22 +91,22 @@ module _ (start last a : ℕ) (s : Segment) (o : Over s start last) (past : star
 
 module _ (t : List Segment) (ps : Pairs Apart t) (last len : ℕ) where
   -- the restarts from `start` on are the segments passed from there to the answer
-  pub restarts_passed : (n start r a k : ℕ) → ahead t start < n → tries n t last len start r ≡ Free a k → k ≡ r + count (passedb start a) t
+  pub restarts_passed : (n start r a k : ℕ) → ahead t start < n → tries n t last len start r ≡ Some (a, k) → k ≡ r + count (passedb start a) t
   unfolding tries
   restarts_passed zero start r a k h e = absurd (not-suc-le-zero h)
   restarts_passed (suc n) start r a k h e = one (restarts_passed n) (ltb last (start + (len - 1))) (first_over t start (start + (len - 1))) refl e
     where
-      one : ((start r a k : ℕ) → ahead t start < n → tries n t last len start r ≡ Free a k → k ≡ r + count (passedb start a) t)
-          → (b : Bool) (f : Found) → first_over t start (start + (len - 1)) ≡ f → try (tries n t last len) b f start r ≡ Free a k → k ≡ r + count (passedb start a) t
-      one again true f q e = let z : ◌≡◌ {A = ℕ} 0 1 = cc in omega arith
-      one again false Nothing q e = let p : start ≡ a = cc in let l : r ≡ k = cc in omega (arith, ap (λ (y : ℕ). count (passedb start y) t) p, clear)
+      one : ((start r a k : ℕ) → ahead t start < n → tries n t last len start r ≡ Some (a, k) → k ≡ r + count (passedb start a) t)
+          → (b : Bool) (f : Option Segment) → first_over t start (start + (len - 1)) ≡ f → try (tries n t last len) b f start r ≡ Some (a, k) → k ≡ r + count (passedb start a) t
+      one again true f q e = absurd (none_not_some e)
+      one again false None q e = let p = ap (λ x. x.0) (some_same e) in let l = ap (λ x. x.1) (some_same e) in omega (arith, ap (λ (y : ℕ). count (passedb start y) t) p, clear)
         where
           clear : count (passedb start start) t ≡ 0
           clear = count_none (passedb start start) t (all_map outside t (none_over start (start + (len - 1)) t q))
             where
               outside : (x : Segment) → (Over x start (start + (len - 1)) → ⊥) → passedb start start x ≡ false
               outside x f = not_told (passed_tells start start x) (λ p. f (record { some = p.0; reaches = p.1.0; begins = omega (arith, p.1.1) }))
-      one again false (In s) q e = omega (arith, again (start_of s + s.len) (r + 1) a k falls e, passed_falls start (start + (len - 1)) a s (first_over_is start (start + (len - 1)) t s q) above t ps q)
+      one again false (Some s) q e = omega (arith, again (start_of s + s.len) (r + 1) a k falls e, passed_falls start (start + (len - 1)) a s (first_over_is start (start + (len - 1)) t s q) above t ps q)
         where
           falls : ahead t (start_of s + s.len) < n
           falls = omega (arith, ahead_falls start (start + (len - 1)) t s q)

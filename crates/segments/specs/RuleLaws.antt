@@ -1,12 +1,11 @@
 -- The rule of a manager's table: the test in one pass tells the proposition.
-use Rattle.std.specs.Prelude.{◌≡◌, refl, ◌⊎◌, List, [], ◌∷◌, ◌≤◌, ◌<◌}
+use Rattle.std.specs.Prelude.{◌≡◌, refl, ◌⊎◌, List, [], ◌∷◌, ◌≤◌, ◌<◌, Result, Ok, Err, ⊤}
 use Rattle.std.proofs.Common.{sym, ap, inl, inr, arith}
 use mathlib.Core.Bool.{Bool, true, false, not}
+use Rattle.answers.specs.declared.Refusal.{Refusal}
 use Rattle.laws.specs.Tells.{Tells}
 use Rattle.laws.specs.TellsLaws.{tells_of, tells_both}
 use Rattle.segment.specs.declared.Segment.{Segment}
-use Rattle.segment.specs.declared.Answered.{Answered}
-use Rattle.segment.specs.declared.Answered.TheVariants.{Done, Refused}
 use Rattle.segments.specs.declared.table.VirtualMemoryManager.{VirtualMemoryManager}
 use Rattle.segments.specs.declared.table.Reach.{Reach}
 use Rattle.segment.specs.Form.{start_of, last_of, emptyb, form_of, done, Before}
@@ -42,9 +41,9 @@ before_trans a b c (inr p) (inr q) = inr (omega arith, omega arith)
 pub formed_tells : (s : Segment) → Tells (done (form_of s)) (Formed s)
 formed_tells s = tells_of (done (form_of s)) (back (form_of s)) (λ e. ap done e)
   where
-    back : (a : Answered) → done a ≡ true → a ≡ Done
-    back Done e = refl
-    back (Refused r) e = absurd (mathlib.Core.Bool.false≢true e)
+    back : (a : Result ⊤ Refusal) → done a ≡ true → a ≡ Ok tt
+    back (Ok tt) e = refl
+    back (Err r) e = absurd (mathlib.Core.Bool.false≢true e)
 
 -- ---- one pass
 

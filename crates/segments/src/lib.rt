@@ -4,9 +4,6 @@
 mod manager;
 mod table;
 
-pub use manager::{
-    ListAnswer, Listed, MarkAnswer, NewAnswer, ReleaseAnswer, Released, ReserveAnswer, Reserved,
-    SplitAnswer, SplitInto,
-};
-pub use segment::{Answered, Segment};
+pub use manager::{Answered, ListAnswer};
+pub use segment::Segment;
 pub use table::VirtualMemoryManager;

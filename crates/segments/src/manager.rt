@@ -1,118 +1,65 @@
 // The calls of a lone manager: each takes any manager and any arguments, tests the table first, and answers by the rules (RULES S).
-ghost use Rattle.std.specs.Prelude.{◌≡◌, true};
-ghost use Rattle.segment.specs.declared.Answered.TheVariants.{Done};
+ghost use Rattle.std.specs.Prelude.{◌≡◌, true, Ok};
 ghost use Rattle.segments.specs.Table.{held, soundb};
 ghost use Rattle.segments.specs.Calls.{new_call, reserve_call, mark_call, release_call, split_call, list_call, checked_by, split_point, insideb, lowest, overlapsb};
 
-use crate::table::{Place, VirtualMemoryManager};
+use crate::table::VirtualMemoryManager;
 use address::VirtAddr;
 use answers::Refusal;
-use segment::{Answered, Segment};
-use segment_search::{Found, Search, find_overlapping_at, lowest_start};
+use segment::Segment;
+use segment_search::{find_overlapping_at, lowest_start};
 
-// The segment reserved, and how often the search started over.
+// What a call answers, and the manager that it leaves: that goes with a refusal too, so the calls that answer it have no `?`.
 #[derive(Clone, Copy)]
-pub enum Reserved {
-    At(Segment, u64),
-    Refused(Refusal),
-}
-
-// Whether the segment was held.
-#[derive(Clone, Copy)]
-pub enum Released {
-    Yes,
-    No,
-    Refused(Refusal),
-}
-
-// The part below and the part above.
-#[derive(Clone, Copy)]
-pub enum SplitInto {
-    Parts(Segment, Segment),
-    Refused(Refusal),
-}
-
-// How many segments there are.
-#[derive(Clone, Copy)]
-pub enum Listed {
-    Held(usize),
-    Refused(Refusal),
-}
-
-#[derive(Clone, Copy)]
-pub struct NewAnswer {
-    pub answer: Answered,
+pub struct Answered<T> {
+    pub answer: Result<T, Refusal>,
     pub manager: VirtualMemoryManager,
 }
 
-#[derive(Clone, Copy)]
-pub struct ReserveAnswer {
-    pub answer: Reserved,
-    pub manager: VirtualMemoryManager,
-}
-
-#[derive(Clone, Copy)]
-pub struct MarkAnswer {
-    pub answer: Answered,
-    pub manager: VirtualMemoryManager,
-}
-
-#[derive(Clone, Copy)]
-pub struct ReleaseAnswer {
-    pub answer: Released,
-    pub manager: VirtualMemoryManager,
-}
-
-#[derive(Clone, Copy)]
-pub struct SplitAnswer {
-    pub answer: SplitInto,
-    pub manager: VirtualMemoryManager,
-}
-
-// The segments in list order, and zeros after them.
+// How many segments there are, in list order, and zeros after them.
 #[derive(Clone, Copy)]
 pub struct ListAnswer {
-    pub answer: Listed,
+    pub answer: Result<usize, Refusal>,
     pub segments: [Segment; 64],
 }
 
 impl VirtualMemoryManager {
     // A manager with no segments over an arena. Refuses BadAddress and BadRange, and answers the manager of no arena then.
-    pub fn new(mem_start: VirtAddr, mem_size: u64) -> NewAnswer
+    pub fn new(mem_start: VirtAddr, mem_size: u64) -> Answered<()>
         ensures { result ≡ new_call mem_start mem_size }
     {
         let form = Segment::new(mem_start, mem_size).form();
-        if let Answered::Done = form {
-            return NewAnswer {
+        if form.is_err() {
+            return Answered {
                 answer: form,
-                manager: VirtualMemoryManager::over(mem_start, mem_size),
+                manager: VirtualMemoryManager::over(VirtAddr(0), 0),
             };
         }
-        NewAnswer {
+        Answered {
             answer: form,
-            manager: VirtualMemoryManager::over(VirtAddr(0), 0),
+            manager: VirtualMemoryManager::over(mem_start, mem_size),
         }
     }
 
     // Reserves the lowest free start of the arena. Refuses BadTable, NoSpace and TableFull, and leaves the manager as it was then.
-    pub fn reserve_bytes(self, len: u64) -> ReserveAnswer
+    pub fn reserve_bytes(self, len: u64) -> Answered<(Segment, u64)>
         ensures { result ≡ reserve_call self len }
     {
         if !self.is_sound() {
-            return ReserveAnswer {
-                answer: Reserved::Refused(Refusal::BadTable),
+            return Answered {
+                answer: Err(Refusal::BadTable),
                 manager: self,
             };
         }
-        let Search::Free(start, restarts) = self.lowest_free(len) else {
-            return ReserveAnswer {
-                answer: Reserved::Refused(Refusal::NoSpace),
+        let Some((start, restarts)) = self.lowest_free(len) else {
+            return Answered {
+                answer: Err(Refusal::NoSpace),
                 manager: self,
             };
         };
         if 64 <= self.count {
-            return ReserveAnswer {
-                answer: Reserved::Refused(Refusal::TableFull),
+            return Answered {
+                answer: Err(Refusal::TableFull),
                 manager: self,
             };
         }
@@ -120,89 +67,89 @@ impl VirtualMemoryManager {
             start: VirtAddr(start),
             len,
         };
-        ReserveAnswer {
-            answer: Reserved::At(segment, restarts),
+        Answered {
+            answer: Ok((segment, restarts)),
             manager: self.insert(segment),
         }
     }
 
     // Reserves a given segment, in the arena or not. Refuses BadTable, BadAddress, BadRange, SegmentReserved and TableFull, and leaves
     // the manager as it was then.
-    pub fn mark_as_reserved(self, segment: Segment) -> MarkAnswer
+    pub fn mark_as_reserved(self, segment: Segment) -> Answered<()>
         ensures { result ≡ mark_call self segment }
     {
-        if let Answered::Refused(why) = self.checked(segment) {
-            return MarkAnswer {
-                answer: Answered::Refused(why),
+        if let Err(why) = self.checked(segment) {
+            return Answered {
+                answer: Err(why),
                 manager: self,
             };
         }
         if self.overlaps_any(segment) {
-            return MarkAnswer {
-                answer: Answered::Refused(Refusal::SegmentReserved),
+            return Answered {
+                answer: Err(Refusal::SegmentReserved),
                 manager: self,
             };
         }
-        if let Place::At(_) = self.place(segment) {
-            return MarkAnswer {
-                answer: Answered::Done,
+        if self.place(segment).is_some() {
+            return Answered {
+                answer: Ok(()),
                 manager: self,
             };
         }
         if 64 <= self.count {
-            return MarkAnswer {
-                answer: Answered::Refused(Refusal::TableFull),
+            return Answered {
+                answer: Err(Refusal::TableFull),
                 manager: self,
             };
         }
-        MarkAnswer {
-            answer: Answered::Done,
+        Answered {
+            answer: Ok(()),
             manager: self.insert(segment),
         }
     }
 
     // Gives a segment up, if it is held exactly so. Refuses BadTable, BadAddress and BadRange, and leaves the manager as it was then.
-    pub fn release(self, segment: Segment) -> ReleaseAnswer
+    pub fn release(self, segment: Segment) -> Answered<bool>
         ensures { result ≡ release_call self segment }
     {
-        if let Answered::Refused(why) = self.checked(segment) {
-            return ReleaseAnswer {
-                answer: Released::Refused(why),
+        if let Err(why) = self.checked(segment) {
+            return Answered {
+                answer: Err(why),
                 manager: self,
             };
         }
-        let Place::At(at) = self.place(segment) else {
-            return ReleaseAnswer {
-                answer: Released::No,
+        let Some(at) = self.place(segment) else {
+            return Answered {
+                answer: Ok(false),
                 manager: self,
             };
         };
-        ReleaseAnswer {
-            answer: Released::Yes,
+        Answered {
+            answer: Ok(true),
             manager: self.remove_at(at),
         }
     }
 
     // Replaces a held segment by the two that meet at `at`. Refuses BadTable, BadAddress, BadRange, InvalidSplitPoint, NotReserved
     // and TableFull, and leaves the manager as it was then.
-    pub fn split(self, segment: Segment, at: VirtAddr) -> SplitAnswer
+    pub fn split(self, segment: Segment, at: VirtAddr) -> Answered<(Segment, Segment)>
         ensures { result ≡ split_call self segment at }
     {
-        if let Answered::Refused(why) = self.split_point(segment, at) {
-            return SplitAnswer {
-                answer: SplitInto::Refused(why),
+        if let Err(why) = self.split_point(segment, at) {
+            return Answered {
+                answer: Err(why),
                 manager: self,
             };
         }
-        let Place::At(place) = self.place(segment) else {
-            return SplitAnswer {
-                answer: SplitInto::Refused(Refusal::NotReserved),
+        let Some(place) = self.place(segment) else {
+            return Answered {
+                answer: Err(Refusal::NotReserved),
                 manager: self,
             };
         };
         if 64 <= self.count {
-            return SplitAnswer {
-                answer: SplitInto::Refused(Refusal::TableFull),
+            return Answered {
+                answer: Err(Refusal::TableFull),
                 manager: self,
             };
         }
@@ -213,8 +160,8 @@ impl VirtualMemoryManager {
             start: at,
             len: segment.len - below,
         };
-        SplitAnswer {
-            answer: SplitInto::Parts(low, high),
+        Answered {
+            answer: Ok((low, high)),
             manager: self.remove_at(place).insert(low).insert(high),
         }
     }
@@ -229,56 +176,54 @@ impl VirtualMemoryManager {
                 len: 0,
             };
             return ListAnswer {
-                answer: Listed::Refused(Refusal::BadTable),
+                answer: Err(Refusal::BadTable),
                 segments: [none; 64],
             };
         }
         ListAnswer {
-            answer: Listed::Held(self.count),
+            answer: Ok(self.count),
             segments: self.rows(),
         }
     }
 
     // The table's rule, then the segment's form.
-    fn checked(self, segment: Segment) -> Answered
+    fn checked(self, segment: Segment) -> Result<(), Refusal>
         ensures { result ≡ checked_by self segment }
     {
         if !self.is_sound() {
-            return Answered::Refused(Refusal::BadTable);
+            return Err(Refusal::BadTable);
         }
         segment.form()
     }
 
     // The table's rule, then the forms, then whether `at` is a page strictly inside the segment.
-    fn split_point(self, segment: Segment, at: VirtAddr) -> Answered
+    fn split_point(self, segment: Segment, at: VirtAddr) -> Result<(), Refusal>
         ensures { result ≡ split_point self segment at }
     {
         if !self.is_sound() {
-            return Answered::Refused(Refusal::BadTable);
+            return Err(Refusal::BadTable);
         }
         if !at.is_canonical() {
-            return Answered::Refused(Refusal::BadAddress);
+            return Err(Refusal::BadAddress);
         }
-        if let Answered::Refused(why) = segment.form() {
-            return Answered::Refused(why);
-        }
+        segment.form()?;
         if inside(segment, at) {
-            Answered::Done
+            Ok(())
         } else {
-            Answered::Refused(Refusal::InvalidSplitPoint)
+            Err(Refusal::InvalidSplitPoint)
         }
     }
 
     // The lowest free start for `len` bytes.
-    fn lowest_free(self, len: u64) -> Search
+    fn lowest_free(self, len: u64) -> Option<(u64, u64)>
         requires { soundb self ≡ true }
         ensures { result ≡ lowest self len }
     {
         if len == 0 {
-            return Search::Full;
+            return None;
         }
         if self.mem_size < len {
-            return Search::Full;
+            return None;
         }
         let last = self.mem_start.0 + (self.mem_size - 1);
         let words = self.words();
@@ -287,7 +232,7 @@ impl VirtualMemoryManager {
 
     // Whether a segment held has a byte of this one.
     fn overlaps_any(self, segment: Segment) -> bool
-        requires { checked_by self segment ≡ Done }
+        requires { checked_by self segment ≡ Ok tt }
         ensures { result ≡ overlapsb (held self) segment }
     {
         let len = segment.len;
@@ -295,16 +240,13 @@ impl VirtualMemoryManager {
             return false;
         }
         let words = self.words();
-        if let Found::In(_) = find_overlapping_at(
+        find_overlapping_at(
             &words[..],
             self.count,
             segment.start.0,
             segment.start.0 + (len - 1),
-        ) {
-            true
-        } else {
-            false
-        }
+        )
+        .is_some()
     }
 }
 

@@ -1,15 +1,9 @@
 -- The manager's calls on lent words: what each answers, and what it leaves in the words and in `out`.
-use Rattle.std.specs.Prelude.{◌&&◌, cond, List, [], ◌∷◌, ℕ, eqb, length}
+use Rattle.std.specs.Prelude.{◌&&◌, cond, List, [], ◌∷◌, ℕ, eqb, length, Result, Ok, Err, Bool, ⊤, true, false}
+use Rattle.segment.specs.declared.Segment.{Segment}
+use Rattle.answers.specs.declared.Refusal.{Refusal}
 use Rattle.answers.specs.Number.{number_of}
-use Rattle.segment.specs.declared.Answered.{Answered}
-use Rattle.segment.specs.declared.Answered.TheVariants as answered
 use Rattle.segments.specs.declared.table.VirtualMemoryManager.{VirtualMemoryManager}
-use Rattle.segments.specs.declared.manager.Reserved.{Reserved}
-use Rattle.segments.specs.declared.manager.Reserved.TheVariants as reserved
-use Rattle.segments.specs.declared.manager.Released.{Released}
-use Rattle.segments.specs.declared.manager.Released.TheVariants as released
-use Rattle.segments.specs.declared.manager.SplitInto.{SplitInto}
-use Rattle.segments.specs.declared.manager.SplitInto.TheVariants as split
 use Rattle.segment.specs.Form.{start_of}
 use Rattle.segments.specs.Calls.{segment, new_call, reserve_call, mark_call, release_call, split_call}
 use Rattle.segments_lent.specs.LentWords.{manager_of, words_of}
@@ -35,22 +29,22 @@ of_lengths w out r = cond (eqb (length w) 131 && eqb (length out) 4) r (lent 1 w
 
 -- by cases on the answer, with the words before and the manager after
 
-abbrev pub answered_as : List ℕ → Answered → VirtualMemoryManager → Lent
-answered_as w answered.Done m = lent 0 (words_of m) []
-answered_as w (answered.Refused why) m = lent (number_of why) w []
+abbrev pub answered_as : List ℕ → Result ⊤ Refusal → VirtualMemoryManager → Lent
+answered_as w (Ok tt) m = lent 0 (words_of m) []
+answered_as w (Err why) m = lent (number_of why) w []
 
-abbrev pub reserved_as : List ℕ → Reserved → VirtualMemoryManager → Lent
-reserved_as w (reserved.At s restarts) m = lent 0 (words_of m) (start_of s ∷ restarts ∷ 0 ∷ 0 ∷ [])
-reserved_as w (reserved.Refused why) m = lent (number_of why) w zeros
+abbrev pub reserved_as : List ℕ → Result (Segment × ℕ) Refusal → VirtualMemoryManager → Lent
+reserved_as w (Ok (s, restarts)) m = lent 0 (words_of m) (start_of s ∷ restarts ∷ 0 ∷ 0 ∷ [])
+reserved_as w (Err why) m = lent (number_of why) w zeros
 
-abbrev pub released_as : List ℕ → Released → VirtualMemoryManager → Lent
-released_as w released.Yes m = lent 0 (words_of m) (1 ∷ 0 ∷ 0 ∷ 0 ∷ [])
-released_as w released.No m = lent 0 w zeros
-released_as w (released.Refused why) m = lent (number_of why) w zeros
+abbrev pub released_as : List ℕ → Result Bool Refusal → VirtualMemoryManager → Lent
+released_as w (Ok true) m = lent 0 (words_of m) (1 ∷ 0 ∷ 0 ∷ 0 ∷ [])
+released_as w (Ok false) m = lent 0 w zeros
+released_as w (Err why) m = lent (number_of why) w zeros
 
-abbrev pub split_as : List ℕ → SplitInto → VirtualMemoryManager → Lent
-split_as w (split.Parts low high) m = lent 0 (words_of m) (start_of low ∷ low.len ∷ start_of high ∷ high.len ∷ [])
-split_as w (split.Refused why) m = lent (number_of why) w zeros
+abbrev pub split_as : List ℕ → Result (Segment × Segment) Refusal → VirtualMemoryManager → Lent
+split_as w (Ok (low, high)) m = lent 0 (words_of m) (start_of low ∷ low.len ∷ start_of high ∷ high.len ∷ [])
+split_as w (Err why) m = lent (number_of why) w zeros
 
 -- ---- the calls
 

@@ -9,7 +9,7 @@ ghost use Rattle.segments_c.specs.LentManager.{lent, new_on, mark_on, reserve_on
 mod words;
 
 use address::VirtAddr;
-use segments::{Answered, Released, Reserved, Segment, SplitInto};
+use segments::Segment;
 use segments_lent::manager::{mark_as_reserved, new, release, reserve_bytes, split};
 use words::put_out;
 
@@ -19,8 +19,8 @@ pub extern "C" fn manager_new(words: &mut [u64], start: u64, size: u64) -> u64
     ensures { lent result words.new [] ≡ new_on words.old start size }
 {
     match new(words, VirtAddr(start), size) {
-        Answered::Refused(why) => why.number(),
-        Answered::Done => 0,
+        Err(why) => why.number(),
+        Ok(()) => 0,
     }
 }
 
@@ -36,11 +36,11 @@ pub extern "C" fn manager_reserve(words: &mut [u64], len: u64, out: &mut [u64]) 
         return 1;
     }
     match reserve_bytes(words, len) {
-        Reserved::Refused(why) => {
+        Err(why) => {
             put_out(out, 0, 0, 0, 0);
             why.number()
         }
-        Reserved::At(segment, restarts) => {
+        Ok((segment, restarts)) => {
             put_out(out, segment.start.0, restarts, 0, 0);
             0
         }
@@ -57,8 +57,8 @@ pub extern "C" fn manager_mark(words: &mut [u64], start: u64, len: u64) -> u64
         len,
     };
     match mark_as_reserved(words, segment) {
-        Answered::Refused(why) => why.number(),
-        Answered::Done => 0,
+        Err(why) => why.number(),
+        Ok(()) => 0,
     }
 }
 
@@ -78,16 +78,12 @@ pub extern "C" fn manager_release(words: &mut [u64], start: u64, len: u64, out: 
         len,
     };
     match release(words, segment) {
-        Released::Refused(why) => {
+        Err(why) => {
             put_out(out, 0, 0, 0, 0);
             why.number()
         }
-        Released::No => {
-            put_out(out, 0, 0, 0, 0);
-            0
-        }
-        Released::Yes => {
-            put_out(out, 1, 0, 0, 0);
+        Ok(held) => {
+            put_out(out, held as u64, 0, 0, 0);
             0
         }
     }
@@ -115,11 +111,11 @@ pub extern "C" fn manager_split(
         len,
     };
     match split(words, segment, VirtAddr(at)) {
-        SplitInto::Refused(why) => {
+        Err(why) => {
             put_out(out, 0, 0, 0, 0);
             why.number()
         }
-        SplitInto::Parts(low, high) => {
+        Ok((low, high)) => {
             put_out(out, low.start.0, low.len, high.start.0, high.len);
             0
         }

@@ -1,24 +1,16 @@
 -- The ways through the calls on lent words past their first tests: what is answered and left is what the definition says.
-use Rattle.std.specs.Prelude.{◌≡◌, refl, Bool, true, false, List, ℕ, ◌≤◌, ◌<◌, length}
+use Rattle.std.specs.Prelude.{◌≡◌, refl, Bool, true, false, List, ℕ, ◌≤◌, ◌<◌, length, Option, Some, None, Result, Ok, Err, ⊤}
 use Rattle.std.proofs.Common.{sym, ◌∙◌, arith}
+use Rattle.answers.specs.declared.Refusal.{Refusal}
 use Rattle.answers.specs.declared.Refusal.TheVariants.{NoSpace, SegmentReserved, NotReserved, TableFull}
 use Rattle.address.specs.declared.VirtAddr.{VirtAddr}
 use Rattle.segment.specs.declared.Segment.{Segment}
-use Rattle.segment.specs.declared.Answered.{Answered}
-use Rattle.segment.specs.declared.Answered.TheVariants.{Done, Refused}
-use Rattle.segment_search.specs.declared.Search.{Search}
-use Rattle.segment_search.specs.declared.Search.TheVariants.{Free, Full}
 use Rattle.segments.specs.declared.table.VirtualMemoryManager.{VirtualMemoryManager}
-use Rattle.segments.specs.declared.manager.Reserved.TheVariants as reserved
-use Rattle.segments.specs.declared.manager.Released.TheVariants as released
-use Rattle.segments.specs.declared.manager.SplitInto.TheVariants as split
 use Rattle.segments.specs.Table.{held, stored, soundb, insert, removed_at, position, place_of}
 use Rattle.segments.specs.Calls.{segment, lowest, overlapsb, low, high}
 use Rattle.segments.specs.CallLaws as call
 use Rattle.segments.specs.CallTestLaws.{Inside}
 use Rattle.segments.specs.RuleLaws.{sound_tells}
-use Rattle.segments_lent.specs.declared.table.Place.{Place}
-use Rattle.segments_lent.specs.declared.table.Place.TheVariants.{Held, Absent}
 use Rattle.segments_lent.specs.LentWords.{manager_of, row_put, lent_sound}
 use Rattle.segments_lent.specs.LentWordsLaws.{sized, lent_sound_is}
 use Rattle.segments_lent.specs.LentCalls.{left, reserve_lent, mark_lent, release_lent, split_lent, checked_lent, point_lent}
@@ -33,75 +25,75 @@ module _ (w : List ℕ) (len : ℕ) (b : Bool) (test : b ≡ lent_sound w) (yes 
   pub lent_both : (length w ≡ 131) × (soundb (manager_of w) ≡ true)
   lent_both = lent_sound_is w (sym test ∙ yes)
 
-  module _ (f : Search) (low : f ≡ lowest (manager_of w) len) where
-    pub reserve_no_space : f ≡ Full → left (reserved.Refused NoSpace) w ≡ reserve_lent w len
+  module _ (f : Option (ℕ × ℕ)) (low : f ≡ lowest (manager_of w) len) where
+    pub reserve_no_space : f ≡ None → left (Err NoSpace) w ≡ reserve_lent w len
     reserve_no_space e =
-        reserve_left w w lent_both.0 lent_both.0 len (reserved.Refused NoSpace)
+        reserve_left w w lent_both.0 lent_both.0 len (Err NoSpace)
         (call.reserve_no_space (manager_of w) len (soundb (manager_of w)) refl lent_both.1 f low e)
 
-    module _ (start restarts : ℕ) (free : f ≡ Free start restarts) where
-      pub reserve_full : 64 ≤ (manager_of w).count → left (reserved.Refused TableFull) w ≡ reserve_lent w len
+    module _ (start restarts : ℕ) (free : f ≡ Some (start, restarts)) where
+      pub reserve_full : 64 ≤ (manager_of w).count → left (Err TableFull) w ≡ reserve_lent w len
       reserve_full h =
-          reserve_left w w lent_both.0 lent_both.0 len (reserved.Refused TableFull)
+          reserve_left w w lent_both.0 lent_both.0 len (Err TableFull)
           (call.reserve_table_full (manager_of w) len (soundb (manager_of w)) refl lent_both.1 f low start restarts free h)
 
       pub reserve_done : (manager_of w).count < 64 → (v : List ℕ) → length v ≡ length w → manager_of v ≡ stored (manager_of w) (insert (segment start len) (held (manager_of w)))
-          → left (reserved.At (segment start len) restarts) v ≡ reserve_lent w len
+          → left (Ok (segment start len, restarts)) v ≡ reserve_lent w len
       reserve_done h v l e =
-          reserve_left w v lent_both.0 (l ∙ lent_both.0) len (reserved.At (segment start len) restarts)
+          reserve_left w v lent_both.0 (l ∙ lent_both.0) len (Ok (segment start len, restarts))
           (call.reserve_done (manager_of w) len (soundb (manager_of w)) refl lent_both.1 f low start restarts free h (manager_of v) e)
 
 -- ---- marking and releasing
 
-module _ (w : List ℕ) (s : Segment) (f : Answered) (checked : f ≡ checked_lent w s) (done : f ≡ Done) where
+module _ (w : List ℕ) (s : Segment) (f : Result ⊤ Refusal) (checked : f ≡ checked_lent w s) (done : f ≡ Ok tt) where
   sound : soundb (manager_of w) ≡ true
   sound = call.checked_sound (manager_of w) s (sym (checked_by_is w s f checked done) ∙ done)
 
   pub lent_most : (length w ≡ 131) × ((manager_of w).count ≤ 64)
   lent_most = (checked_length w s f checked done, call.sound_most (manager_of w) sound)
 
-  module _ (p : Place) (at : p ≡ place_in (held (manager_of w)) s) (k : ℕ) where
-    pub release_no : p ≡ Absent k → left released.No w ≡ release_lent w s
+  module _ (p : Result ℕ ℕ) (at : p ≡ place_in (held (manager_of w)) s) (k : ℕ) where
+    pub release_no : p ≡ Err k → left (Ok false) w ≡ release_lent w s
     release_no e =
-        release_left w w lent_most.0 lent_most.0 s released.No
+        release_left w w lent_most.0 lent_most.0 s (Ok false)
         (call.release_no (manager_of w) s f (checked_by_is w s f checked done) done (place_of (held (manager_of w)) s 0) refl (place_absent (manager_of w) sound s p at k e))
 
-    pub release_inside : p ≡ Held k → k < (manager_of w).count
+    pub release_inside : p ≡ Ok k → k < (manager_of w).count
     release_inside e = call.release_inside (manager_of w) s f (checked_by_is w s f checked done) done (place_of (held (manager_of w)) s 0) refl k (place_held (manager_of w) sound s p at k e) (sized w)
 
-    pub release_yes : p ≡ Held k → (v : List ℕ) → length v ≡ length w → manager_of v ≡ stored (manager_of w) (removed_at k (held (manager_of w))) → left released.Yes v ≡ release_lent w s
+    pub release_yes : p ≡ Ok k → (v : List ℕ) → length v ≡ length w → manager_of v ≡ stored (manager_of w) (removed_at k (held (manager_of w))) → left (Ok true) v ≡ release_lent w s
     release_yes e v l r =
-        release_left w v lent_most.0 (l ∙ lent_most.0) s released.Yes
+        release_left w v lent_most.0 (l ∙ lent_most.0) s (Ok true)
         (call.release_yes (manager_of w) s f (checked_by_is w s f checked done) done (place_of (held (manager_of w)) s 0) refl k (place_held (manager_of w) sound s p at k e) (manager_of v) r)
 
-    pub mark_where : p ≡ Absent k → k ≡ position (held (manager_of w)) s
+    pub mark_where : p ≡ Err k → k ≡ position (held (manager_of w)) s
     mark_where e = place_where (held (manager_of w)) s p at k e
 
     module _ (o : Bool) (over : o ≡ overlapsb (held (manager_of w)) s) (clear : o ≡ false) where
-      pub mark_again : p ≡ Held k → left Done w ≡ mark_lent w s
+      pub mark_again : p ≡ Ok k → left (Ok tt) w ≡ mark_lent w s
       mark_again e =
-          mark_left w w lent_most.0 lent_most.0 s Done
+          mark_left w w lent_most.0 lent_most.0 s (Ok tt)
           (call.mark_again (manager_of w) s f (checked_by_is w s f checked done) done (place_of (held (manager_of w)) s 0) refl o over clear k (place_held (manager_of w) sound s p at k e))
 
-      module _ (e : p ≡ Absent k) where
-        pub mark_full : 64 ≤ (manager_of w).count → left (Refused TableFull) w ≡ mark_lent w s
+      module _ (e : p ≡ Err k) where
+        pub mark_full : 64 ≤ (manager_of w).count → left (Err TableFull) w ≡ mark_lent w s
         mark_full h =
-            mark_left w w lent_most.0 lent_most.0 s (Refused TableFull)
+            mark_left w w lent_most.0 lent_most.0 s (Err TableFull)
             (call.mark_full (manager_of w) s f (checked_by_is w s f checked done) done (place_of (held (manager_of w)) s 0) refl o over clear (place_absent (manager_of w) sound s p at k e) h)
 
-        pub mark_done : (manager_of w).count < 64 → (v : List ℕ) → length v ≡ length w → manager_of v ≡ stored (manager_of w) (insert s (held (manager_of w))) → left Done v ≡ mark_lent w s
+        pub mark_done : (manager_of w).count < 64 → (v : List ℕ) → length v ≡ length w → manager_of v ≡ stored (manager_of w) (insert s (held (manager_of w))) → left (Ok tt) v ≡ mark_lent w s
         mark_done h v l i =
-            mark_left w v lent_most.0 (l ∙ lent_most.0) s Done
+            mark_left w v lent_most.0 (l ∙ lent_most.0) s (Ok tt)
             (call.mark_done (manager_of w) s f (checked_by_is w s f checked done) done (place_of (held (manager_of w)) s 0) refl o over clear (place_absent (manager_of w) sound s p at k e) h (manager_of v) i)
 
-  pub mark_reserved : (o : Bool) → o ≡ overlapsb (held (manager_of w)) s → o ≡ true → left (Refused SegmentReserved) w ≡ mark_lent w s
+  pub mark_reserved : (o : Bool) → o ≡ overlapsb (held (manager_of w)) s → o ≡ true → left (Err SegmentReserved) w ≡ mark_lent w s
   mark_reserved o over e =
-      mark_left w w lent_most.0 lent_most.0 s (Refused SegmentReserved)
+      mark_left w w lent_most.0 lent_most.0 s (Err SegmentReserved)
       (call.mark_reserved (manager_of w) s f (checked_by_is w s f checked done) done (place_of (held (manager_of w)) s 0) refl o over e)
 
 -- ---- splitting
 
-module _ (w : List ℕ) (s : Segment) (at : VirtAddr) (f : Answered) (point : f ≡ point_lent w s at) (done : f ≡ Done) where
+module _ (w : List ℕ) (s : Segment) (at : VirtAddr) (f : Result ⊤ Refusal) (point : f ≡ point_lent w s at) (done : f ≡ Ok tt) where
   right : soundb (manager_of w) ≡ true
   right = call.point_sound (manager_of w) s at f (point_by w s at f point done) done
 
@@ -111,16 +103,16 @@ module _ (w : List ℕ) (s : Segment) (at : VirtAddr) (f : Answered) (point : f 
   pub point_inside : Inside s at.0
   point_inside = call.point_is (manager_of w) s at f (point_by w s at f point done) done
 
-  module _ (p : Place) (stand : p ≡ place_in (held (manager_of w)) s) (k : ℕ) where
-    pub split_absent : p ≡ Absent k → left (split.Refused NotReserved) w ≡ split_lent w s at
+  module _ (p : Result ℕ ℕ) (stand : p ≡ place_in (held (manager_of w)) s) (k : ℕ) where
+    pub split_absent : p ≡ Err k → left (Err NotReserved) w ≡ split_lent w s at
     split_absent e =
-        split_left w w point_most.0 point_most.0 s at (split.Refused NotReserved)
+        split_left w w point_most.0 point_most.0 s at (Err NotReserved)
         (call.split_absent (manager_of w) s at f (point_by w s at f point done) done (place_of (held (manager_of w)) s 0) refl (place_absent (manager_of w) right s p stand k e))
 
-    module _ (e : p ≡ Held k) where
-      pub split_full : 64 ≤ (manager_of w).count → left (split.Refused TableFull) w ≡ split_lent w s at
+    module _ (e : p ≡ Ok k) where
+      pub split_full : 64 ≤ (manager_of w).count → left (Err TableFull) w ≡ split_lent w s at
       split_full h =
-          split_left w w point_most.0 point_most.0 s at (split.Refused TableFull)
+          split_left w w point_most.0 point_most.0 s at (Err TableFull)
           (call.split_full (manager_of w) s at f (point_by w s at f point done) done (place_of (held (manager_of w)) s 0) refl k (place_held (manager_of w) right s p stand k e) h)
 
       module _ (room : (manager_of w).count < 64) where
@@ -138,7 +130,7 @@ module _ (w : List ℕ) (s : Segment) (at : VirtAddr) (f : Answered) (point : f 
           pub split_second : (manager_of b).count < 64
           split_second = call.split_second (manager_of w) s at f (point_by w s at f point done) done (place_of (held (manager_of w)) s 0) refl k (place_held (manager_of w) right s p stand k e) (sized w) room out (manager_of b) refl one
 
-          pub split_done : (v : List ℕ) → length v ≡ length w → manager_of v ≡ stored (manager_of b) (insert (high s at) (held (manager_of b))) → left (split.Parts (low s at) (high s at)) v ≡ split_lent w s at
+          pub split_done : (v : List ℕ) → length v ≡ length w → manager_of v ≡ stored (manager_of b) (insert (high s at) (held (manager_of b))) → left (Ok (low s at, high s at)) v ≡ split_lent w s at
           split_done v l two =
-              split_left w v point_most.0 (l ∙ point_most.0) s at (split.Parts (low s at) (high s at))
+              split_left w v point_most.0 (l ∙ point_most.0) s at (Ok (low s at, high s at))
               (call.split_done (manager_of w) s at f (point_by w s at f point done) done (place_of (held (manager_of w)) s 0) refl k (place_held (manager_of w) right s p stand k e) (sized w) room out (manager_of b) (manager_of v) refl one two)

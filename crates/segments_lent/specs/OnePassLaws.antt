@@ -1,5 +1,6 @@
 -- Laws of `OnePass`: what the search says of the rows that are left is what it says of all.
-use Rattle.std.specs.Prelude.{◌≡◌, Bool, cond, ltb, length, get_or, drop}
+use Rattle.laws.specs.ResultLaws.{none_not_some, some_not_none}
+use Rattle.std.specs.Prelude.{◌≡◌, Bool, cond, ltb, length, get_or, drop, Option, Some, None}
 use Rattle.std.proofs.Math.Path.{refl, ap}
 use Rattle.std.proofs.Common.{sym, subst, ◌∙◌, arith, drop-cons, lt-ltb, le-ltb, ltb-true, ltb-false, ne_eqb}
 use Rattle.std.proofs.Math.Bool.{true, false}
@@ -11,10 +12,6 @@ use Rattle.laws.specs.LoopLaws.{loop_more, loop_none}
 use Rattle.segment.specs.declared.Segment.{Segment}
 use Rattle.segment.specs.Form.{start_of, last_of, overb}
 use Rattle.segment.specs.FormLaws.{over_tells}
-use Rattle.segment_search.specs.declared.Found.{Found}
-use Rattle.segment_search.specs.declared.Found.TheVariants.{In, Nothing}
-use Rattle.segment_search.specs.declared.Search.{Search}
-use Rattle.segment_search.specs.declared.Search.TheVariants as searched
 use Rattle.segment_search.specs.Search.{first_over, aheadb, ahead, try, tries, search}
 use Rattle.segment_search.specs.SearchLaws.{search_late, search_free, search_again}
 use Rattle.segment_search.specs.TriesLaws.{by_test, ahead_tells, count_no, first_over_is}
@@ -24,8 +21,6 @@ use Rattle.segments.specs.Calls.{lowest}
 use Rattle.segments.specs.RuleLaws.{all_map, sound_tells}
 use Rattle.segments.specs.HeldLoopLaws.{held_length, held_at}
 use Rattle.segments_lent.specs.declared.lowest.Probe.{Probe}
-use Rattle.segments_lent.specs.declared.lowest.Tried.{Tried}
-use Rattle.segments_lent.specs.declared.lowest.Tried.TheVariants.{On, Full}
 use Rattle.segments_lent.specs.OnePass.{past_row}
 use Rattle.segments_lent.specs.RowRuleLaws.{before_starts}
 
@@ -42,14 +37,14 @@ module _ (s : Segment) (t : List Segment) (last len : ℕ) where
   unfolding tries first_over
   tries_skip zero start r h = refl
   tries_skip (suc n) start r h =
-      ap (λ (b : Bool). try (tries n (s ∷ t) last len) (ltb last (start + (len - 1))) (cond b (In s) (first_over t start (start + (len - 1)))) start r) (not_over s start (start + (len - 1)) h)
+      ap (λ (b : Bool). try (tries n (s ∷ t) last len) (ltb last (start + (len - 1))) (cond b (Some s) (first_over t start (start + (len - 1)))) start r) (not_over s start (start + (len - 1)) h)
       ∙ same (tries_skip n) (ltb last (start + (len - 1))) (first_over t start (start + (len - 1))) refl
     where
       same : ((start restarts : ℕ) → aheadb start s ≡ false → tries n (s ∷ t) last len start restarts ≡ tries n t last len start restarts)
-          → (b : Bool) (f : Found) → first_over t start (start + (len - 1)) ≡ f → try (tries n (s ∷ t) last len) b f start r ≡ try (tries n t last len) b f start r
+          → (b : Bool) (f : Option Segment) → first_over t start (start + (len - 1)) ≡ f → try (tries n (s ∷ t) last len) b f start r ≡ try (tries n t last len) b f start r
       same again true f e = refl
-      same again false Nothing e = refl
-      same again false (In x) e = again (start_of x + x.len) (r + 1) (still_behind s start (start_of x + x.len) (let o = (first_over_is start (start + (len - 1)) t x e).reaches in omega arith) h)
+      same again false None e = refl
+      same again false (Some x) e = again (start_of x + x.len) (r + 1) (still_behind s start (start_of x + x.len) (let o = (first_over_is start (start + (len - 1)) t x e).reaches in omega arith) h)
 
   search_skip : (start restarts : ℕ) → aheadb start s ≡ false → search (s ∷ t) last len start restarts ≡ search t last len start restarts
   unfolding search
@@ -67,7 +62,7 @@ module _ (s : Segment) (p : Probe) (len last : ℕ) (fits : p.start + (len - 1) 
   behind : over ≡ false → aheadb p.start s ≡ false
   behind n = not_told (ahead_tells p.start s) (λ a. (over_tells s p.start (p.start + (len - 1))).no n (record { some = a.0; reaches = a.1; begins = begins }))
 
-  first : over ≡ true → (t : List Segment) → In s ≡ first_over (s ∷ t) p.start (p.start + (len - 1))
+  first : over ≡ true → (t : List Segment) → Some s ≡ first_over (s ∷ t) p.start (p.start + (len - 1))
   unfolding first_over
   first y t = rw y
 
@@ -75,73 +70,73 @@ module _ (s : Segment) (p : Probe) (len last : ℕ) (fits : p.start + (len - 1) 
   passed = not_told (ahead_tells (start_of s + s.len) s) (λ a. let l = a.1 in let n = a.0 in n (omega arith))
 
   again : over ≡ true → (t : List Segment) → search (s ∷ t) last len p.start p.restarts ≡ search (s ∷ t) last len (start_of s + s.len) (p.restarts + 1)
-  again y t = sym (search_again (s ∷ t) last len p.start p.restarts fits (In s) (first y t) s refl)
+  again y t = sym (search_again (s ∷ t) last len p.start p.restarts fits (Some s) (first y t) s refl)
 
   -- what the row leaves to search
-  row_on : (q : Probe) → On q ≡ past_row s p len last → (t : List Segment) → search (s ∷ t) last len p.start p.restarts ≡ search t last len q.start q.restarts
+  row_on : (q : Probe) → Some q ≡ past_row s p len last → (t : List Segment) → search (s ∷ t) last len p.start p.restarts ≡ search t last len q.start q.restarts
   row_on q e t = by_test over way clear
     where
       clear : over ≡ false → search (s ∷ t) last len p.start p.restarts ≡ search t last len q.start q.restarts
-      clear n = let r : On q ≡ On p = rw n at e in let z : q ≡ p = cc in search_skip s t last len p.start p.restarts (behind n) ∙ ap (λ (x : Probe). search t last len x.start x.restarts) (sym z)
+      clear n = let r : Some q ≡ Some p = rw n at e in let z : q ≡ p = cc in search_skip s t last len p.start p.restarts (behind n) ∙ ap (λ (x : Probe). search t last len x.start x.restarts) (sym z)
 
       way : over ≡ true → search (s ∷ t) last len p.start p.restarts ≡ search t last len q.start q.restarts
       way y = by_test (ltb last (start_of s + s.len + (len - 1))) (λ l. absurd (full l)) on
         where
           full : ltb last (start_of s + s.len + (len - 1)) ≡ true → ⊥
-          full l = let r : On q ≡ Full = rw (y, l) at e in let z : ◌≡◌ {A = ℕ} 0 1 = cc in omega arith
+          full l = some_not_none (rw (y, l) at e)
 
           on : ltb last (start_of s + s.len + (len - 1)) ≡ false → search (s ∷ t) last len p.start p.restarts ≡ search t last len q.start q.restarts
           on l =
-              let r : On q ≡ On (record { start = start_of s + s.len; restarts = p.restarts + 1 }) = rw (y, l) at e in
+              let r : Some q ≡ Some (record { start = start_of s + s.len; restarts = p.restarts + 1 }) = rw (y, l) at e in
               let z : q ≡ record { start = start_of s + s.len; restarts = p.restarts + 1 } = cc in
               again y t ∙ search_skip s t last len (start_of s + s.len) (p.restarts + 1) passed ∙ ap (λ (x : Probe). search t last len x.start x.restarts) (sym z)
 
   -- and where it ends
-  row_fits : (q : Probe) → On q ≡ past_row s p len last → (q.start + (len - 1) ≤ last) × (q.restarts ≤ p.restarts + 1)
-  row_fits q e = by_test over way (λ n. let r : On q ≡ On p = rw n at e in let z : q ≡ p = cc in subst (λ (x : Probe). (x.start + (len - 1) ≤ last) × (x.restarts ≤ p.restarts + 1)) (sym z) (fits, omega arith))
+  row_fits : (q : Probe) → Some q ≡ past_row s p len last → (q.start + (len - 1) ≤ last) × (q.restarts ≤ p.restarts + 1)
+  row_fits q e = by_test over way (λ n. let r : Some q ≡ Some p = rw n at e in let z : q ≡ p = cc in subst (λ (x : Probe). (x.start + (len - 1) ≤ last) × (x.restarts ≤ p.restarts + 1)) (sym z) (fits, omega arith))
     where
       way : over ≡ true → (q.start + (len - 1) ≤ last) × (q.restarts ≤ p.restarts + 1)
       way y = by_test (ltb last (start_of s + s.len + (len - 1))) (λ l. absurd (full l)) on
         where
           full : ltb last (start_of s + s.len + (len - 1)) ≡ true → ⊥
-          full l = let r : On q ≡ Full = rw (y, l) at e in let z : ◌≡◌ {A = ℕ} 0 1 = cc in omega arith
+          full l = some_not_none (rw (y, l) at e)
 
           on : ltb last (start_of s + s.len + (len - 1)) ≡ false → (q.start + (len - 1) ≤ last) × (q.restarts ≤ p.restarts + 1)
           on l =
-              let r : On q ≡ On (record { start = start_of s + s.len; restarts = p.restarts + 1 }) = rw (y, l) at e in
+              let r : Some q ≡ Some (record { start = start_of s + s.len; restarts = p.restarts + 1 }) = rw (y, l) at e in
               let z : q ≡ record { start = start_of s + s.len; restarts = p.restarts + 1 } = cc in
               subst (λ (x : Probe). (x.start + (len - 1) ≤ last) × (x.restarts ≤ p.restarts + 1)) (sym z) (ltb-false last (start_of s + s.len + (len - 1)) l, omega arith)
 
-  row_full : Full ≡ past_row s p len last → (t : List Segment) → search (s ∷ t) last len p.start p.restarts ≡ searched.Full
+  row_full : None ≡ past_row s p len last → (t : List Segment) → search (s ∷ t) last len p.start p.restarts ≡ None
   row_full e t = by_test over way (λ n. absurd (clear n))
     where
       clear : over ≡ false → ⊥
-      clear n = let r : Full ≡ On p = rw n at e in let z : ◌≡◌ {A = ℕ} 0 1 = cc in omega arith
+      clear n = none_not_some (rw n at e)
 
-      way : over ≡ true → search (s ∷ t) last len p.start p.restarts ≡ searched.Full
+      way : over ≡ true → search (s ∷ t) last len p.start p.restarts ≡ None
       way y = by_test (ltb last (start_of s + s.len + (len - 1))) (λ l. again y t ∙ sym (search_late (s ∷ t) last len (start_of s + s.len) (p.restarts + 1) (ltb-true last (start_of s + s.len + (len - 1)) l))) (λ l. absurd (on l))
         where
           on : ltb last (start_of s + s.len + (len - 1)) ≡ false → ⊥
-          on l = let r : Full ≡ On (record { start = start_of s + s.len; restarts = p.restarts + 1 }) = rw (y, l) at e in let z : ◌≡◌ {A = ℕ} 0 1 = cc in omega arith
+          on l = none_not_some (rw (y, l) at e)
 
   -- the code's ways to say it
   module _ (b : Bool) (test : b ≡ over) where
-    pub past_clear : b ≡ false → On p ≡ past_row s p len last
+    pub past_clear : b ≡ false → Some p ≡ past_row s p len last
     past_clear e = rw (sym test, e)
 
     module _ (way : b ≡ true) where
-      pub past_blocked : last - start_of s < s.len → Full ≡ past_row s p len last
+      pub past_blocked : last - start_of s < s.len → None ≡ past_row s p len last
       past_blocked h = rw (sym test, way, lt-ltb last (start_of s + s.len + (len - 1)) (omega arith))
 
-      pub past_late : last < start_of s + s.len + (len - 1) → Full ≡ past_row s p len last
+      pub past_late : last < start_of s + s.len + (len - 1) → None ≡ past_row s p len last
       past_late h = rw (sym test, way, lt-ltb last (start_of s + s.len + (len - 1)) h)
 
-      pub past_again : start_of s + s.len + (len - 1) ≤ last → On (record { start = start_of s + s.len; restarts = p.restarts + 1 }) ≡ past_row s p len last
+      pub past_again : start_of s + s.len + (len - 1) ≤ last → Some (record { start = start_of s + s.len; restarts = p.restarts + 1 }) ≡ past_row s p len last
       past_again h = rw (sym test, way, le-ltb last (start_of s + s.len + (len - 1)) h)
 
 -- ---- a row that begins past the try ends the search
 
-all_none : (first last : ℕ) (t : List Segment) → All (λ x. last < start_of x) t → first_over t first last ≡ Nothing
+all_none : (first last : ℕ) (t : List Segment) → All (λ x. last < start_of x) t → first_over t first last ≡ None
 unfolding first_over
 all_none first last [] h = refl
 all_none first last (x ∷ t) h = rw (not_told (over_tells x first last) (λ o. let b = o.begins in let a = h.0 in omega arith)) (all_none first last t h.1)
@@ -161,10 +156,10 @@ module _ (m : VirtualMemoryManager) (sized : length m.segments ≡ 64) (sound : 
   most : m.count ≤ 64
   most = ((sound_tells m).yes sound).counted
 
-  abbrev all : Search
+  abbrev all : Option (ℕ × ℕ)
   all = search (held m) last len start 0
 
-  abbrev left : List Segment → Search
+  abbrev left : List Segment → Option (ℕ × ℕ)
   left t = search t last len p.start p.restarts
 
   module _ (below : i < n) (s : Segment) (row : s ≡ get_or m.segments i no_segment) where
@@ -177,38 +172,38 @@ module _ (m : VirtualMemoryManager) (sized : length m.segments ≡ 64) (sound : 
     rest : drop i (held m) ≡ s ∷ drop (suc i) (held m)
     rest = drop-cons (held m) i no_segment inside ∙ ap (λ (x : Segment). x ∷ drop (suc i) (held m)) (sym here)
 
-    pub search_stop : p.start + (len - 1) < start_of s → searched.Free p.start p.restarts ≡ all
+    pub search_stop : p.start + (len - 1) < start_of s → Some (p.start, p.restarts) ≡ all
     search_stop h =
-        search_free (drop i (held m)) last len p.start p.restarts inv.1.0.1 Nothing (sym nothing) refl
+        search_free (drop i (held m)) last len p.start p.restarts inv.1.0.1 None (sym nothing) refl
         ∙ sym inv.1.1
       where
         apart : Pairs Apart (s ∷ drop (suc i) (held m))
         apart = subst (λ (t : List Segment). Pairs Apart t) rest (pairs_drop i (held m) ((sound_tells m).yes sound).apart)
 
-        nothing : first_over (drop i (held m)) p.start (p.start + (len - 1)) ≡ Nothing
+        nothing : first_over (drop i (held m)) p.start (p.start + (len - 1)) ≡ None
         nothing =
             ap (λ t. first_over t p.start (p.start + (len - 1))) rest
             ∙ all_none p.start (p.start + (len - 1)) (s ∷ drop (suc i) (held m)) (h, all_map (λ x a. let l = before_starts s x a.order in omega arith) (drop (suc i) (held m)) apart.0)
 
-    module _ (begins : start_of s ≤ p.start + (len - 1)) (r : Tried) (past : r ≡ past_row s p len last) where
-      pub search_more : (q : Probe) → r ≡ On q → Searched m len last start n q (i + 1)
+    module _ (begins : start_of s ≤ p.start + (len - 1)) (r : Option Probe) (past : r ≡ past_row s p len last) where
+      pub search_more : (q : Probe) → r ≡ Some q → Searched m len last start n q (i + 1)
       search_more q e =
           let f = row_fits s p len last inv.1.0.1 begins q (sym e ∙ past) in
           let k = inv.1.0.0 in
           ((inv.0.0, omega arith), ((omega (arith, f.1), f.0), loop_more left (held m) i all inv.1.1 inside no_segment s here (λ t. search t last len q.start q.restarts) (row_on s p len last inv.1.0.1 begins q (sym e ∙ past))))
 
-      pub search_none : r ≡ Full → searched.Full ≡ all
+      pub search_none : r ≡ None → None ≡ all
       search_none e = sym (inv.1.1 ∙ ap left rest ∙ row_full s p len last inv.1.0.1 begins (sym e ∙ past) (drop (suc i) (held m)))
 
-  pub search_end : n ≤ i → searched.Free p.start p.restarts ≡ all
+  pub search_end : n ≤ i → Some (p.start, p.restarts) ≡ all
   unfolding first_over
   search_end h =
-      search_free [] last len p.start p.restarts inv.1.0.1 Nothing refl refl
+      search_free [] last len p.start p.restarts inv.1.0.1 None refl refl
       ∙ loop_none left (held m) i all inv.1.1 (let l = held_length m sized most in omega (arith, inv.0.0))
 
 pub search_first : (m : VirtualMemoryManager) (len last start : ℕ) → start + (len - 1) ≤ last → Searched m len last start m.count (record { start = start; restarts = 0 }) 0
 search_first m len last start h = ((refl, omega arith), ((omega arith, h), refl))
 
-pub search_lowest : (m : VirtualMemoryManager) (len : ℕ) → (len ≡ 0 → ⊥) → len ≤ m.mem_size → (r : Search) → r ≡ search (held m) (last_of (arena m)) len (start_of (arena m)) 0 → r ≡ lowest m len
+pub search_lowest : (m : VirtualMemoryManager) (len : ℕ) → (len ≡ 0 → ⊥) → len ≤ m.mem_size → (r : Option (ℕ × ℕ)) → r ≡ search (held m) (last_of (arena m)) len (start_of (arena m)) 0 → r ≡ lowest m len
 unfolding lowest
 search_lowest m len n h r e = e ∙ sym (rw (ne_eqb len 0 n, le-ltb m.mem_size len h))

@@ -1,5 +1,5 @@
 -- Laws of `RowRule`: the pass tells what the table's rule asks, and what its loop knows after i rows.
-use Rattle.std.specs.Prelude.{◌≡◌, refl, ℕ, ◌+◌, ◌-◌, ◌≤◌, ◌<◌, eqb, ltb, leb, length, get_or}
+use Rattle.std.specs.Prelude.{◌≡◌, refl, ℕ, ◌+◌, ◌-◌, ◌≤◌, ◌<◌, eqb, ltb, leb, length, get_or, Result, Ok, Err, ⊤}
 use Rattle.std.proofs.Math.Path.{ap}
 use Rattle.std.proofs.Common.{sym, ◌∙◌, inl, inr, ⊎_elim, eqb-true, leb-true, leb-false, lt-ltb, le-leb, eq-eqb, ne_eqb}
 use mathlib.Core.Bool.{Bool, true, false, not, ◌&&◌, ◌||◌}
@@ -13,8 +13,6 @@ use Rattle.laws.specs.Loops.{Remains}
 use Rattle.laws.specs.LoopLaws.{loop_found, loop_more, loop_none}
 use Rattle.answers.specs.declared.Refusal.{Refusal}
 use Rattle.segment.specs.declared.Segment.{Segment}
-use Rattle.segment.specs.declared.Answered.{Answered}
-use Rattle.segment.specs.declared.Answered.TheVariants.{Done, Refused}
 use Rattle.segment.specs.Form.{start_of, last_of, emptyb, form_of, done, Before}
 use Rattle.segment.specs.FormLaws.{before_tells}
 use Rattle.segment_search.specs.TriesLaws.{by_test}
@@ -132,7 +130,7 @@ abbrev pub Risen : VirtualMemoryManager → ℕ → Floor → ℕ → Type 0
 Risen m n f i = (n ≡ m.count) × ((i ≤ n) × Remains (λ t. rises t (ltb 0 i) f) (held m) i (rises (held m) false no_floor))
 
 -- a row that may follow is well formed
-pub rests_formed : (b : Bool) (f : Floor) (started : Bool) (s : Segment) → b ≡ restsb f started s → b ≡ true → form_of s ≡ Done
+pub rests_formed : (b : Bool) (f : Floor) (started : Bool) (s : Segment) → b ≡ restsb f started s → b ≡ true → form_of s ≡ Ok tt
 rests_formed b f started s e t = (formed_tells s).yes (both_true (done (form_of s)) (clearsb f started s) (sym e ∙ t)).0
 
 module _ (m : VirtualMemoryManager) (sized : length m.segments ≡ 64) (most : m.count ≤ 64) (n : ℕ) (f : Floor) (i : ℕ) (inv : Risen m n f i) where
@@ -169,11 +167,11 @@ module _ (m : VirtualMemoryManager) (sized : length m.segments ≡ 64) (most : m
 
 -- ---- a row past the floor, one law for each way
 
-module _ (f : Floor) (started : Bool) (s : Segment) (a : Answered) (form : a ≡ form_of s) where
-  pub rests_form : (why : Refusal) → a ≡ Refused why → false ≡ restsb f started s
+module _ (f : Floor) (started : Bool) (s : Segment) (a : Result ⊤ Refusal) (form : a ≡ form_of s) where
+  pub rests_form : (why : Refusal) → a ≡ Err why → false ≡ restsb f started s
   rests_form why e = rw (sym form, e)
 
-  module _ (good : a ≡ Done) where
+  module _ (good : a ≡ Ok tt) where
     pub rests_first : s.len ≡ 0 → started ≡ false → true ≡ restsb f started s
     rests_first z e = rw (sym form, good, eq-eqb s.len 0 z, e)
 

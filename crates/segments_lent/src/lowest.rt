@@ -9,7 +9,6 @@ ghost use Rattle.segments_lent.specs.OnePass.{past_row};
 
 use crate::table::row_at;
 use segment::Segment;
-use segment_search::Search;
 
 // The start that is tried, and how often the search started over.
 #[derive(Clone, Copy)]
@@ -18,15 +17,8 @@ pub struct Probe {
     pub restarts: u64,
 }
 
-// The try past one row.
-#[derive(Clone, Copy)]
-pub enum Tried {
-    On(Probe),
-    Full,
-}
-
 // Past a row that begins no later than the try ends: the same try, or the one from the row's end on.
-fn past(s: Segment, probe: Probe, len: u64, mem_last: u64) -> Tried
+fn past(s: Segment, probe: Probe, len: u64, mem_last: u64) -> Option<Probe>
     requires len_nonzero { 0 < len }
     requires len_bound { probe.start + (len - 1) ≤ mem_last }
     requires s_bound { start_of s ≤ probe.start + (len - 1) }
@@ -34,23 +26,23 @@ fn past(s: Segment, probe: Probe, len: u64, mem_last: u64) -> Tried
     ensures { result ≡ past_row s probe len mem_last }
 {
     if !s.overlaps(probe.start, probe.start + (len - 1)) {
-        return Tried::On(probe);
+        return Some(probe);
     }
     let past = s.len;
     if mem_last - s.start.0 < past {
-        return Tried::Full;
+        return None;
     }
     let start = s.start.0 + past;
     if mem_last - start < len - 1 {
-        return Tried::Full;
+        return None;
     }
-    Tried::On(Probe {
+    Some(Probe {
         start,
         restarts: probe.restarts + 1,
     })
 }
 
-fn search_rows(words: &[u64], len: u64, mem_last: u64) -> Search
+fn search_rows(words: &[u64], len: u64, mem_last: u64) -> Option<(u64, u64)>
     requires words_len { length words.now ≡ 131 }
     requires words_value { soundb (manager_of words.now) ≡ true }
     requires len_nonzero { 0 < len }
@@ -62,32 +54,27 @@ fn search_rows(words: &[u64], len: u64, mem_last: u64) -> Search
         start: words[0],
         restarts: 0,
     };
-    let mut i = 0;
-    while i < n {
+    for i in 0..n {
         let s = row_at(words, i);
         if probe.start + (len - 1) < s.start.0 {
-            return Search::Free(probe.start, probe.restarts);
+            return Some((probe.start, probe.restarts));
         }
-        let Tried::On(next) = past(s, probe, len, mem_last) else {
-            return Search::Full;
-        };
-        probe = next;
-        i += 1;
+        probe = past(s, probe, len, mem_last)?;
     }
-    Search::Free(probe.start, probe.restarts)
+    Some((probe.start, probe.restarts))
 }
 
 // The lowest free start for `len` bytes in the manager's arena.
-pub fn lowest_free(words: &[u64], len: u64) -> Search
+pub fn lowest_free(words: &[u64], len: u64) -> Option<(u64, u64)>
     requires words_len { length words.now ≡ 131 }
     requires words_value { soundb (manager_of words.now) ≡ true }
     ensures { result ≡ lowest (manager_of words.now) len }
 {
     if len == 0 {
-        return Search::Full;
+        return None;
     }
     if words[1] < len {
-        return Search::Full;
+        return None;
     }
     search_rows(words, len, words[0] + (words[1] - 1))
 }

@@ -27,14 +27,12 @@ pub fn backings_fit(words: &[u64]) -> bool
         free: 0,
         next: count,
     };
-    let mut f = 0;
-    while f < FRAMES as u64 {
+    for f in 0..FRAMES as u64 {
         let b = backing_at(words, f as usize);
         if !may_start(met.end, f, b.len, count) {
             return false;
         }
         met = with_row(met, f, b.len, count);
-        f += 1;
     }
     is_pool(words, met.free, met.next)
 }

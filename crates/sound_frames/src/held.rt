@@ -14,7 +14,8 @@ use rows::slots::region_at;
 pub(crate) const HOLDERS: usize = 1024;
 
 // What an entry or a range holds: the backing's first frame, 256 where it holds none or none that can be marked, the page that it
-// is held at, and 1 for a Shared region.
+// is held at, and 1 for a Shared region. Numbers, not an Option and a bool: they are counted and
+// compared as those of the model's `Hold` are.
 #[derive(Clone, Copy)]
 pub struct Held {
     pub frame: usize,

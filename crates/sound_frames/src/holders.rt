@@ -17,13 +17,11 @@ pub fn counted(words: &[u64]) -> bool
     ensures { result ≡ (r3b (machine words.now) && free_unheld (machine words.now)) }
 {
     let counts = tally(words);
-    let mut f = 0;
-    while f < FRAMES {
+    for f in 0..FRAMES {
         let b = backing_at(words, f);
         if !is_held(b, counts[f] as u64) {
             return false;
         }
-        f += 1;
     }
     true
 }
@@ -53,18 +51,17 @@ fn tally(words: &[u64]) -> [u16; FRAMES]
     counts
 }
 
-// Counts the entries, holders 0 to 511.
+// Counts the entries, holders 0 to 511. Entries and ranges have a loop each, not one over `held_by`: a turn then reads one table, with no
+// test of which.
 fn tally_entries(words: &[u64], counts: &mut [u16])
     requires words_len { length words.now ≡ word_count }
     requires counts { Counts words.now counts.old 0 }
     ensures { Counts words.now counts.new 512 }
 {
-    let mut k = 0;
-    while k < ENTRIES {
+    for k in 0..ENTRIES {
         let entry = entry_at(words, k);
         let h = by_entry(entry);
         let frame = h.frame;
-        k += 1;
         if frame == FRAMES {
             continue;
         }
@@ -78,10 +75,8 @@ fn tally_ranges(words: &[u64], counts: &mut [u16])
     requires counts { Counts words.now counts.old 512 }
     ensures { Counts words.now counts.new 1024 }
 {
-    let mut k = ENTRIES;
-    while k < HOLDERS {
+    for k in ENTRIES..HOLDERS {
         let region = region_at(words, k - ENTRIES);
-        k += 1;
         if region.kind == FREE {
             continue;
         }

@@ -25,22 +25,20 @@ pub fn one_page(words: &[u64]) -> bool
     ranges_alike(words, &mut marks)
 }
 
-// Compares the entries, holders 0 to 511, each with the first that holds its frame.
+// Compares the entries, holders 0 to 511, each with the first that holds its frame. Entries and ranges have a loop each, as in `tally`.
 fn entries_alike(words: &[u64], marks: &mut [u16]) -> bool
     requires words_len { length words.now ≡ word_count }
     requires firsts { Firsts (held_rows (machine words.now)) marks.old 0 }
     ensures { Compared (held_rows (machine words.now)) marks.new 512 result }
 {
-    let mut k: u16 = 0;
-    while k < 512 {
+    for k in 0..512u16 {
         let entry = entry_at(words, k as usize);
         let h = by_entry(entry);
         let frame = h.frame;
-        k += 1;
         if frame == FRAMES {
             continue;
         }
-        let mark = first_mark(marks[frame], k);
+        let mark = first_mark(marks[frame], k + 1);
         marks[frame] = mark;
         if !holds_as(words, (mark - 1) as usize, h) {
             return false;
@@ -55,10 +53,8 @@ fn ranges_alike(words: &[u64], marks: &mut [u16]) -> bool
     requires firsts { Firsts (held_rows (machine words.now)) marks.old 512 }
     ensures { Compared (held_rows (machine words.now)) marks.new 1024 result }
 {
-    let mut k: u16 = 512;
-    while k < 1024 {
+    for k in 512..1024u16 {
         let region = region_at(words, (k - 512) as usize);
-        k += 1;
         if region.kind == FREE {
             continue;
         }
@@ -67,7 +63,7 @@ fn ranges_alike(words: &[u64], marks: &mut [u16]) -> bool
         if frame == FRAMES {
             continue;
         }
-        let mark = first_mark(marks[frame], k);
+        let mark = first_mark(marks[frame], k + 1);
         marks[frame] = mark;
         if !holds_as(words, (mark - 1) as usize, h) {
             return false;

@@ -1,4 +1,5 @@
 -- What the tests of lists are stated and proved by.
+pub mod EachLaws
 pub mod Marks
 pub mod MarksLaws
 pub mod ListOrder

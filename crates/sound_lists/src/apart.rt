@@ -44,15 +44,7 @@ fn is_apart_from_later(words: &[u64], process: usize, slot: usize, region: Regio
     requires slot_bound { slot < 64 }
     ensures { result ≡ all (apartb region) (drop (slot + 1) (regions_of (machine words.now) process)) }
 {
-    let mut next = slot + 1;
-    while next < SLOTS {
-        let other = region_at(words, process * SLOTS + next);
-        if !is_apart(region, other) {
-            return false;
-        }
-        next += 1;
-    }
-    true
+    (slot + 1..SLOTS).all(|next| is_apart(region, region_at(words, process * SLOTS + next)))
 }
 
 // Whether a slot is free or its region apart from all slots after it.
@@ -75,14 +67,7 @@ fn pairs_are_apart(words: &[u64], process: usize) -> bool
     requires process_bound { process < 8 }
     ensures { result ≡ all_pairs is_used apartb (regions_of (machine words.now) process) }
 {
-    let mut i = 0;
-    while i < SLOTS {
-        if !slot_is_apart(words, process, i) {
-            return false;
-        }
-        i += 1;
-    }
-    true
+    (0..SLOTS).all(|i| slot_is_apart(words, process, i))
 }
 
 // Whether the segments of a process's regions rise from slot to slot: then every two are disjoint.
@@ -93,10 +78,8 @@ fn segments_rise(words: &[u64], process: usize) -> bool
 {
     let mut start = 0;
     let mut size = 0;
-    let mut i = 0;
-    while i < SLOTS {
+    for i in 0..SLOTS {
         let region = region_at(words, process * SLOTS + i);
-        i += 1;
         if region.kind == FREE {
             continue;
         }
@@ -126,12 +109,5 @@ pub fn disjoint(words: &[u64]) -> bool
     requires { length words.now ≡ word_count }
     ensures { result ≡ r1b (machine words.now) }
 {
-    let mut i = 0;
-    while i < PROCESSES {
-        if !process_is_disjoint(words, i) {
-            return false;
-        }
-        i += 1;
-    }
-    true
+    (0..PROCESSES).all(|i| process_is_disjoint(words, i))
 }

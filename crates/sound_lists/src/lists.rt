@@ -42,14 +42,7 @@ fn places_are_zero(words: &[u64], process: usize, from: usize) -> bool
     requires from_bound { from ≤ 64 }
     ensures { result ≡ all is_zero (drop from (part 64 process (machine words.now).order)) }
 {
-    let mut i = from;
-    while i < SLOTS {
-        if order_at(words, process * SLOTS + i) != 0 {
-            return false;
-        }
-        i += 1;
-    }
-    true
+    (from..SLOTS).all(|i| order_at(words, process * SLOTS + i) == 0)
 }
 
 // Whether a slot is free, marked as listed, or its region pinned.
@@ -72,15 +65,7 @@ fn unmarked_are_pinned(words: &[u64], process: usize, marks: &[u8]) -> bool
     requires marks_len { length marks.now ≡ 64 }
     ensures { result ≡ all_rows (λ s x. pinned_if_unmarked (get_or marks.now s 0) x) 0 (regions_of (machine words.now) process) }
 {
-    let mut i = 0;
-    while i < SLOTS {
-        let region = region_at(words, process * SLOTS + i);
-        if !is_pinned_if_unmarked(region, marks[i]) {
-            return false;
-        }
-        i += 1;
-    }
-    true
+    (0..SLOTS).all(|i| is_pinned_if_unmarked(region_at(words, process * SLOTS + i), marks[i]))
 }
 
 // Whether the list of a process's attached regions is in order. One pass marks the listed slots: a slot listed twice has a mark.
@@ -91,13 +76,11 @@ fn process_is_ordered(words: &[u64], process: usize) -> bool
 {
     let n = attached_count(words, process);
     let mut marks = [0u8; SLOTS];
-    let mut i = 0;
-    while i < n {
+    for i in 0..n {
         let slot = order_at(words, process * SLOTS + i);
         if !mark_listed(words, process, slot, &mut marks) {
             return false;
         }
-        i += 1;
     }
     if !places_are_zero(words, process, n) {
         return false;
@@ -110,12 +93,5 @@ pub fn ordered(words: &[u64]) -> bool
     requires { length words.now ≡ word_count }
     ensures { result ≡ each_process (machine words.now) (orderedb (machine words.now)) }
 {
-    let mut i = 0;
-    while i < PROCESSES {
-        if !process_is_ordered(words, i) {
-            return false;
-        }
-        i += 1;
-    }
-    true
+    (0..PROCESSES).all(|i| process_is_ordered(words, i))
 }

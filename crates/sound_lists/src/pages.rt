@@ -32,12 +32,10 @@ fn pages_rise(words: &[u64], process: usize) -> bool
     ensures { result ≡ rising (mapped_of (machine words.now) process) }
 {
     let n = mapped_count(words, process);
-    let mut i = 0;
-    while i < n {
+    for i in 0..n {
         if !page_follows(words, process, i) {
             return false;
         }
-        i += 1;
     }
     true
 }
@@ -62,15 +60,7 @@ fn rows_are_free(words: &[u64], process: usize, from: usize) -> bool
     requires from_bound { from ≤ 128 }
     ensures { result ≡ all free_mapping (drop from (part 128 process (machine words.now).mapped)) }
 {
-    let mut i = from;
-    while i < MAPPED_PAGES {
-        let row = mapping_at(words, process * MAPPED_PAGES + i);
-        if !is_free(row) {
-            return false;
-        }
-        i += 1;
-    }
-    true
+    (from..MAPPED_PAGES).all(|i| is_free(mapping_at(words, process * MAPPED_PAGES + i)))
 }
 
 // Whether the mapped pages of a process are in page order.
@@ -91,12 +81,5 @@ pub fn paged(words: &[u64]) -> bool
     requires { length words.now ≡ word_count }
     ensures { result ≡ each_process (machine words.now) (pagedb (machine words.now)) }
 {
-    let mut i = 0;
-    while i < PROCESSES {
-        if !process_is_paged(words, i) {
-            return false;
-        }
-        i += 1;
-    }
-    true
+    (0..PROCESSES).all(|i| process_is_paged(words, i))
 }

@@ -1,12 +1,10 @@
 -- Laws of `MappedHome`: the home of a page in a machine that is laid out: at most one attached region holds an address, so the first that does is the only one.
-use Rattle.std.specs.Prelude.{◌≡◌, Bool, true, false, cond, List, [], ◌∷◌, ℕ, zero, suc, ◌^◌, ◌≤◌, ◌<◌, length, get_or, ltb, leb}
+use Rattle.std.specs.Prelude.{◌≡◌, Bool, true, false, cond, List, [], ◌∷◌, ℕ, zero, suc, ◌^◌, ◌≤◌, ◌<◌, length, get_or, ltb, leb, Option, Some, None}
 use Rattle.std.proofs.Math.Path.{refl, ap, sym}
 use Rattle.std.proofs.Common.{subst, ◌∙◌, zero-le, suc-le-suc, arith, ltb-true, ltb-false}
 use Rattle.std.proofs.Math.Decide.{ℕ_discrete}
 use Rattle.std.proofs.Math.Numerals.{lt_of_le_of_ne}
 use Rattle.model.specs.declared.Region.{Region}
-use Rattle.model.specs.declared.Found.{Found}
-use Rattle.model.specs.declared.Found.TheVariants.{At, Nothing}
 use Rattle.laws.specs.Lists.{keep, among}
 use Rattle.model.specs.Layout.{machine}
 use Rattle.model.specs.Machine.{no_region, region_at, row_of, order_of, user_end}
@@ -41,7 +39,7 @@ unfolding keep first_slot
 only_first f [] o = refl
 only_first f (x ∷ l) o = go (f x) refl (only_first f l (λ i j h k. o (suc i) (suc j) (suc-le-suc h) (suc-le-suc k)))
   where
-    go : (b : Bool) → f x ≡ b → only (keep f l) ≡ first_slot f l → only (cond b (x ∷ keep f l) (keep f l)) ≡ cond b (At x) (first_slot f l)
+    go : (b : Bool) → f x ≡ b → only (keep f l) ≡ first_slot f l → only (cond b (x ∷ keep f l) (keep f l)) ≡ cond b (Some x) (first_slot f l)
     go true e ih = ap (λ t. only (x ∷ t)) (keep_none f l (λ j h. o zero (suc j) (suc-le-suc zero-le) (suc-le-suc h) e))
     go false e ih = ih
 
@@ -95,7 +93,7 @@ module _ (w : List ℕ) (laid : Laid (machine w)) (p : ℕ) (small : p < 8) wher
     pub used : Used (region_at (machine w) p s)
     pub holds : contains (region_at (machine w) p s) (page_start page) ≡ true
 
-  pub home_of_is : (page s : ℕ) → home_at (machine w) p page ≡ At s → Home page s
+  pub home_of_is : (page s : ℕ) → home_at (machine w) p page ≡ Some s → Home page s
   unfolding region_for
   home_of_is page s e =
       let f = first_found (λ s. contains (region_at (machine w) p s) (page_start page)) (order_of (machine w) p) s (sym (home_is page) ∙ e) in
@@ -103,24 +101,24 @@ module _ (w : List ℕ) (laid : Laid (machine w)) (p : ℕ) (small : p < 8) wher
       record { attached = f.1; low = u.0; used = u.1; holds = f.0 }
 
   -- an attached region that holds the page's start is its home
-  pub home_here : (page s : ℕ) → among s (order_of (machine w) p) ≡ true → contains (region_at (machine w) p s) (page_start page) ≡ true → At s ≡ home_at (machine w) p page
+  pub home_here : (page s : ℕ) → among s (order_of (machine w) p) ≡ true → contains (region_at (machine w) p s) (page_start page) ≡ true → Some s ≡ home_at (machine w) p page
   unfolding region_for
   home_here page s l h = go (home_at (machine w) p page) refl
     where
-      go : (f : Found) → home_at (machine w) p page ≡ f → At s ≡ home_at (machine w) p page
-      go Nothing e = clash h (first_none (λ s. contains (region_at (machine w) p s) (page_start page)) (order_of (machine w) p) (sym (home_is page) ∙ e) s l)
-      go (At t) e =
+      go : (f : Option ℕ) → home_at (machine w) p page ≡ f → Some s ≡ home_at (machine w) p page
+      go None e = clash h (first_none (λ s. contains (region_at (machine w) p s) (page_start page)) (order_of (machine w) p) (sym (home_is page) ∙ e) s l)
+      go (Some t) e =
           let a = home_of_is page t e in
           let u = attached_used s l in
-          ap (λ (x : ℕ). At x) (alone s t (page_start page) u.0 a.low u.1 a.used h a.holds) ∙ sym e
+          ap (λ (x : ℕ). Some x) (alone s t (page_start page) u.0 a.low u.1 a.used h a.holds) ∙ sym e
 
   -- a page past the user addresses has none
-  pub home_past : (page : ℕ) → 2 ^ 52 ≤ page → Nothing ≡ home_at (machine w) p page
+  pub home_past : (page : ℕ) → 2 ^ 52 ≤ page → None ≡ home_at (machine w) p page
   home_past page h = go (home_at (machine w) p page) refl
     where
-      go : (f : Found) → home_at (machine w) p page ≡ f → Nothing ≡ home_at (machine w) p page
-      go Nothing e = sym e
-      go (At t) e =
+      go : (f : Option ℕ) → home_at (machine w) p page ≡ f → None ≡ home_at (machine w) p page
+      go None e = sym e
+      go (Some t) e =
           let a = home_of_is page t e in
           let low = a.low in
           let row : row_of p t < length (machine w).regions = rw regions_length (omega arith) in

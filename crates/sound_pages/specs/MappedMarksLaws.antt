@@ -1,5 +1,5 @@
 -- Laws of `MappedMarks`: marks of the mapped rows whose pages have an entry: what the pass over the entries knows, and what it tells of every mapped page.
-use Rattle.std.specs.Prelude.{◌≡◌, refl, Bool, true, false, not, List, ℕ, ◌+◌, ◌-◌, ◌*◌, ◌≤◌, ◌<◌, length, get_or, set, replicate, eqb, ltb, leb}
+use Rattle.std.specs.Prelude.{◌≡◌, refl, Bool, true, false, not, List, ℕ, ◌+◌, ◌-◌, ◌*◌, ◌≤◌, ◌<◌, length, get_or, set, replicate, eqb, ltb, leb, Option, Some, None}
 use Rattle.std.proofs.Common.{ap, sym, subst, ◌∙◌, arith, get_or-set_same, get_or-set_other, ltb-true, ltb-false, leb-true, eqb-true, lt-ltb, le-leb}
 use Rattle.std.proofs.lemmas.Bool.{false≢true}
 use Rattle.std.proofs.Math.Decide.{ℕ_discrete}
@@ -7,8 +7,6 @@ use Rattle.std.proofs.Math.Numerals.{lt_of_le_of_ne}
 use Rattle.std.proofs.lemmas.List.{get_or-replicate}
 use Rattle.model.specs.declared.Mapping.{Mapping}
 use Rattle.model.specs.declared.Entry.{Entry}
-use Rattle.model.specs.declared.Found.{Found}
-use Rattle.model.specs.declared.Found.TheVariants.{At, Nothing}
 use Rattle.model.specs.Layout.{machine}
 use Rattle.model.specs.Machine.{Machine, no_region, no_entry, no_mapping, region_at, row_of, mapped_of}
 use Rattle.model.specs.Lookup.{contains}
@@ -88,7 +86,7 @@ module _ (w : List ℕ) (laid : Laid (machine w)) (p : ℕ) (small : p < 8) wher
   rises = (laid.paged p (rw processes_length small)).rising
 
   -- an entry's region holds the start of its page, so it is the page's home
-  owner_home : (k i s : ℕ) → k < 512 → Standing (machine w) p k i → home_of (machine w) p (row i) ≡ At s → (entry k).owner ≡ row_of p s + 1
+  owner_home : (k i s : ℕ) → k < 512 → Standing (machine w) p k i → home_of (machine w) p (row i) ≡ Some s → (entry k).owner ≡ row_of p s + 1
   owner_home k i s low st e =
       let b = both_true (ltb (p * 64) (entry k).owner) (leb (entry k).owner (p * 64 + 64)) st.owned in
       let above = ltb-true (p * 64) (entry k).owner b.0 in
@@ -104,7 +102,7 @@ module _ (w : List ℕ) (laid : Laid (machine w)) (p : ℕ) (small : p < 8) wher
       let same : s ≡ t = alone w laid p small s t (page_start (entry k).page.0) home.low (omega arith) home.used used there holds in
       omega arith
 
-  entry_fit : (k i s : ℕ) → k < 512 → Standing (machine w) p k i → home_of (machine w) p (row i) ≡ At s → fit (machine w) p (row i) ≡ allows (machine w) (entry k) (row i)
+  entry_fit : (k i s : ℕ) → k < 512 → Standing (machine w) p k i → home_of (machine w) p (row i) ≡ Some s → fit (machine w) p (row i) ≡ allows (machine w) (entry k) (row i)
   entry_fit k i s low st e =
       let own = owner_home k i s low st e in
       through_entry (machine w) p (row i) s e k (entry_is w laid (row_of p s) (row i).page.0 k low own (sym st.page)) (omega arith)
@@ -113,11 +111,11 @@ module _ (w : List ℕ) (laid : Laid (machine w)) (p : ℕ) (small : p < 8) wher
   pub entry_misfits : (k i : ℕ) → k < 512 → Standing (machine w) p k i → allows (machine w) (entry k) (row i) ≡ false → all_fit (machine w) p ≡ false
   entry_misfits k i low st e = one_misfits (machine w) p i st.within (go (home_of (machine w) p (row i)) refl)
     where
-      go : (f : Found) → home_of (machine w) p (row i) ≡ f → fit (machine w) p (row i) ≡ false
-      go Nothing h = homeless (machine w) p (row i) h
-      go (At s) h = entry_fit k i s low st h ∙ e
+      go : (f : Option ℕ) → home_of (machine w) p (row i) ≡ f → fit (machine w) p (row i) ≡ false
+      go None h = homeless (machine w) p (row i) h
+      go (Some s) h = entry_fit k i s low st h ∙ e
 
-  module _ (marks : List ℕ) (seen : Seen (machine w) p 512 marks) (i : ℕ) (inside : i < length (mapped_of (machine w) p)) (s : ℕ) (home : home_of (machine w) p (row i) ≡ At s) where
+  module _ (marks : List ℕ) (seen : Seen (machine w) p 512 marks) (i : ℕ) (inside : i < length (mapped_of (machine w) p)) (s : ℕ) (home : home_of (machine w) p (row i) ≡ Some s) where
     pub marked_fits : marked marks i ≡ true → fit (machine w) p (row i) ≡ true
     marked_fits e = let a = seen.some i inside e in entry_fit a.row i s a.low a.standing home ∙ a.fits
 

@@ -1,5 +1,5 @@
 -- Laws of `MappedRows`: the place of a page's home, the rows with one home, and what is known after each run of them.
-use Rattle.std.specs.Prelude.{◌≡◌, Bool, not, ◌&&◌, ◌||◌, List, [], ◌∷◌, ℕ, ◌+◌, ◌-◌, ◌*◌, ◌%◌, ◌≤◌, ◌<◌, length, get_or, eqb, ltb, leb}
+use Rattle.std.specs.Prelude.{◌≡◌, Bool, not, ◌&&◌, ◌||◌, List, [], ◌∷◌, ℕ, ◌+◌, ◌-◌, ◌*◌, ◌%◌, ◌≤◌, ◌<◌, length, get_or, eqb, ltb, leb, Option, Some, None}
 use Rattle.std.proofs.Math.Path.{refl, ap, sym, subst}
 use Rattle.std.proofs.Common.{◌∙◌, eqb-true}
 use Rattle.std.proofs.Math.Bool.{true, false}
@@ -7,8 +7,6 @@ use Rattle.std.proofs.Math.Decide.{ℕ_discrete}
 use native.Mathlib.Omega.{arith}
 use Rattle.model.specs.declared.Mapping.{Mapping}
 use Rattle.model.specs.declared.Region.{Region}
-use Rattle.model.specs.declared.Found.{Found}
-use Rattle.model.specs.declared.Found.TheVariants.{At, Nothing}
 use Rattle.address.specs.Pages.{page_of}
 use Rattle.model.specs.Layout.{machine}
 use Rattle.model.specs.Machine.{Machine, no_mapping, no_region, row_of, region_at, order_of, mapped_of}
@@ -49,7 +47,7 @@ module _ (m : Machine) (p a from : ℕ) where
     here : contains (region_at m p (slot_at m p i)) a ≡ b
     here = ap (λ (x : ℕ). contains (region_at m p x) a) (sym read) ∙ sym test
 
-    pub held_here : (to : ℕ) → i < to → b ≡ true → HeldAt m p a from to (At i)
+    pub held_here : (to : ℕ) → i < to → b ≡ true → HeldAt m p a from to (Some i)
     unfolding HeldAt
     held_here to h t = (h, here ∙ t)
 
@@ -60,40 +58,40 @@ module _ (m : Machine) (p a from : ℕ) where
         go (yes q) = subst (λ (x : ℕ). contains (region_at m p (slot_at m p x)) a ≡ false) (sym q) (here ∙ f)
         go (no n) = u j h (omega (arith, n))
 
-  pub held_none : (i to : ℕ) → Unheld m p a from i → to ≤ i → HeldAt m p a from to Nothing
+  pub held_none : (i to : ℕ) → Unheld m p a from i → to ≤ i → HeldAt m p a from to None
   unfolding HeldAt
   held_none i to u h = λ j l k. u j l (omega arith)
 
-  pub held_low : (to : ℕ) (f : Found) → to ≤ 64 → HeldAt m p a from to f → row_found f < 64
+  pub held_low : (to : ℕ) (f : Option ℕ) → to ≤ 64 → HeldAt m p a from to f → row_found f < 64
   unfolding HeldAt
-  held_low to (At i) h k = let l = k.0 in omega arith
-  held_low to Nothing h k = omega arith
+  held_low to (Some i) h k = let l = k.0 in omega arith
+  held_low to None h k = omega arith
 
 -- ---- the place of a page's home
 
 module _ (w : List ℕ) (laid : Laid (machine w)) (p : ℕ) (small : p < 8) (n : ℕ) (sized : n ≡ length (order_of (machine w) p)) (most : n ≤ 64) (page : ℕ) where
-  listed_home : (i : ℕ) → i < n → contains (region_at (machine w) p (slot_at (machine w) p i)) (page_start page) ≡ true → At (slot_at (machine w) p i) ≡ home_at (machine w) p page
+  listed_home : (i : ℕ) → i < n → contains (region_at (machine w) p (slot_at (machine w) p i)) (page_start page) ≡ true → Some (slot_at (machine w) p i) ≡ home_at (machine w) p page
   listed_home i h e =
       let s = order_slot w p n sized most i (slot_at (machine w) p i) h refl in
       home_here w laid p small page (slot_at (machine w) p i) (subst (λ (x : ℕ). among x (order_of (machine w) p) ≡ true) (sym s) (in_among (get_or (order_of (machine w) p) i 0) (order_of (machine w) p) (in_at 0 (order_of (machine w) p) i (omega arith)))) e
 
   -- a place found anywhere is the home's
-  pub home_near : (from to i : ℕ) → to ≤ n → (f : Found) → f ≡ At i → HeldAt (machine w) p (page_start page) from to f → At (slot_at (machine w) p i) ≡ home_at (machine w) p page
+  pub home_near : (from to i : ℕ) → to ≤ n → (f : Option ℕ) → f ≡ Some i → HeldAt (machine w) p (page_start page) from to f → Some (slot_at (machine w) p i) ≡ home_at (machine w) p page
   unfolding HeldAt
   home_near from to i h f e k =
-      let held : HeldAt (machine w) p (page_start page) from to (At i) = subst (HeldAt (machine w) p (page_start page) from to) e k in
+      let held : HeldAt (machine w) p (page_start page) from to (Some i) = subst (HeldAt (machine w) p (page_start page) from to) e k in
       let l = held.0 in
       listed_home i (omega arith) held.1
 
   -- and where the whole list has none there is no home
-  pub home_any : (f : Found) → HeldAt (machine w) p (page_start page) 0 n f → listed (machine w) p f ≡ home_at (machine w) p page
+  pub home_any : (f : Option ℕ) → HeldAt (machine w) p (page_start page) 0 n f → listed (machine w) p f ≡ home_at (machine w) p page
   unfolding HeldAt
-  home_any (At i) k = listed_home i k.0 k.1
-  home_any Nothing k = go (home_at (machine w) p page) refl
+  home_any (Some i) k = listed_home i k.0 k.1
+  home_any None k = go (home_at (machine w) p page) refl
     where
-      go : (f : Found) → home_at (machine w) p page ≡ f → Nothing ≡ home_at (machine w) p page
-      go Nothing e = sym e
-      go (At t) e =
+      go : (f : Option ℕ) → home_at (machine w) p page ≡ f → None ≡ home_at (machine w) p page
+      go None e = sym e
+      go (Some t) e =
           let a = home_of_is w laid p small page t e in
           let q = place_of t (order_of (machine w) p) a.attached in
           let inside = q.inside in
@@ -131,9 +129,12 @@ module _ (w : List ℕ) (laid : Laid (machine w)) (p : ℕ) (small : p < 8) (s :
 
     module _ (from i : ℕ) (inv : FitFrom (machine w) p i) where
       -- no row is left
-      pub run_ends : (n : ℕ) → n ≡ length (mapped_of (machine w) p) → n ≤ i → Ran (machine w) p s from (At i)
+      pub run_ends : (n : ℕ) → n ≡ length (mapped_of (machine w) p) → n ≤ i → Ran (machine w) p s from (Some n)
       unfolding Ran
-      run_ends n sized h = (inv, λ l k. absurd (omega arith))
+      run_ends n sized h =
+          let most = inv.0 in
+          let same : i ≡ n = omega arith in
+          (subst (λ (j : ℕ). FitFrom (machine w) p j) same inv, λ l k. absurd (omega arith))
 
       module _ (n : ℕ) (sized : n ≡ length (mapped_of (machine w) p)) (below : i < n) (x : Mapping) (is : x ≡ get_or (rows_of (machine w) p) i no_mapping) where
         inside : i < length (mapped_of (machine w) p)
@@ -143,7 +144,7 @@ module _ (w : List ℕ) (laid : Laid (machine w)) (p : ℕ) (small : p < 8) (s :
         row = is ∙ mapped_row (machine w) p i inside
 
         -- the row starts elsewhere
-        pub run_stops : from ≤ i → contains (region_at (machine w) p s) (page_start x.page.0) ≡ false → Ran (machine w) p s from (At i)
+        pub run_stops : from ≤ i → contains (region_at (machine w) p s) (page_start x.page.0) ≡ false → Ran (machine w) p s from (Some i)
         unfolding Ran
         run_stops h e = (inv, λ l k. first l)
           where
@@ -153,7 +154,7 @@ module _ (w : List ℕ) (laid : Laid (machine w)) (p : ℕ) (small : p < 8) (s :
                 ap (λ (j : ℕ). contains (region_at (machine w) p s) (page_start (page_at (mapped_of (machine w) p) j))) same ∙ ap (λ (y : Mapping). contains (region_at (machine w) p s) (page_start y.page.0)) (sym row) ∙ e
 
         module _ (marks : List ℕ) (seen : Seen (machine w) p 512 marks) (starts : contains (region_at (machine w) p s) (page_start x.page.0) ≡ true) (b : Bool) (test : b ≡ (not (eqb (get_or marks i 0) 0) || range_allows (machine w) r x)) where
-          home : home_of (machine w) p (get_or (mapped_of (machine w) p) i no_mapping) ≡ At s
+          home : home_of (machine w) p (get_or (mapped_of (machine w) p) i no_mapping) ≡ Some s
           home = sym (home_here w laid p small (page_at (mapped_of (machine w) p) i) s attached (ap (λ (y : Mapping). contains (region_at (machine w) p s) (page_start y.page.0)) (sym row) ∙ starts))
 
           by_mark : (c : Bool) → marked marks i ≡ c → (c || range_allows (machine w) (region_at (machine w) p s) (get_or (mapped_of (machine w) p) i no_mapping)) ≡ fit (machine w) p (get_or (mapped_of (machine w) p) i no_mapping)
@@ -168,7 +169,7 @@ module _ (w : List ℕ) (laid : Laid (machine w)) (p : ℕ) (small : p < 8) (s :
               ∙ ap (λ (y : Region). not (eqb (get_or marks i 0) 0) || range_allows (machine w) y x) (sym here)
               ∙ sym test
 
-          pub run_fails : b ≡ false → Ran (machine w) p s from Nothing
+          pub run_fails : b ≡ false → Ran (machine w) p s from None
           unfolding Ran
           run_fails e = every_fails (λ i x. fit (machine w) p x) (mapped_of (machine w) p) (length (mapped_of (machine w) p)) refl i inv inside no_mapping x row (tells ∙ e)
 
@@ -184,18 +185,18 @@ module _ (w : List ℕ) (laid : Laid (machine w)) (p : ℕ) (small : p < 8) (i n
   pub rows_end : n ≤ i → true ≡ all_fit (machine w) p
   rows_end h = every_all (λ i x. fit (machine w) p x) (mapped_of (machine w) p) (length (mapped_of (machine w) p)) refl i inv (omega arith)
 
-  module _ (below : i < n) (x : Mapping) (is : x ≡ get_or (rows_of (machine w) p) i no_mapping) (f : Found) (found : listed (machine w) p f ≡ home_at (machine w) p x.page.0) where
+  module _ (below : i < n) (x : Mapping) (is : x ≡ get_or (rows_of (machine w) p) i no_mapping) (f : Option ℕ) (found : listed (machine w) p f ≡ home_at (machine w) p x.page.0) where
     first : x ≡ get_or (mapped_of (machine w) p) i no_mapping
     first = is ∙ mapped_row (machine w) p i (omega arith)
 
     -- a page without a home
-    pub rows_lost : f ≡ Nothing → false ≡ all_fit (machine w) p
+    pub rows_lost : f ≡ None → false ≡ all_fit (machine w) p
     rows_lost e =
-        let none : home_at (machine w) p x.page.0 ≡ Nothing = sym found ∙ ap (listed (machine w) p) e in
+        let none : home_at (machine w) p x.page.0 ≡ None = sym found ∙ ap (listed (machine w) p) e in
         every_fails (λ i x. fit (machine w) p x) (mapped_of (machine w) p) (length (mapped_of (machine w) p)) refl i inv (omega arith) no_mapping x first (homeless (machine w) p x none)
 
-    module _ (place : ℕ) (at : f ≡ At place) where
-      home_found : home_at (machine w) p x.page.0 ≡ At (slot_at (machine w) p place)
+    module _ (place : ℕ) (at : f ≡ Some place) where
+      home_found : home_at (machine w) p x.page.0 ≡ Some (slot_at (machine w) p place)
       home_found = sym found ∙ ap (listed (machine w) p) at
 
       slot_home : Home w laid p small x.page.0 (slot_at (machine w) p place)
@@ -204,20 +205,20 @@ module _ (w : List ℕ) (laid : Laid (machine w)) (p : ℕ) (small : p < 8) (i n
       pub rows_attached : (s : ℕ) → s ≡ slot_at (machine w) p place → among s (order_of (machine w) p) ≡ true
       rows_attached s e = ap (λ (y : ℕ). among y (order_of (machine w) p)) e ∙ slot_home.attached
 
-      module _ (s : ℕ) (e : s ≡ slot_at (machine w) p place) (g : Found) (ran : Ran (machine w) p s i g) where
-        pub rows_fail : g ≡ Nothing → false ≡ all_fit (machine w) p
+      module _ (s : ℕ) (e : s ≡ slot_at (machine w) p place) (g : Option ℕ) (ran : Ran (machine w) p s i g) where
+        pub rows_fail : g ≡ None → false ≡ all_fit (machine w) p
         unfolding Ran
         rows_fail z = subst (Ran (machine w) p s i) z ran
 
-        pub rows_more : (next : ℕ) → g ≡ At next → FitFrom (machine w) p next
+        pub rows_more : (next : ℕ) → g ≡ Some next → FitFrom (machine w) p next
         unfolding Ran
-        rows_more next z = let t : Ran (machine w) p s i (At next) = subst (Ran (machine w) p s i) z ran in t.0
+        rows_more next z = let t : Ran (machine w) p s i (Some next) = subst (Ran (machine w) p s i) z ran in t.0
 
         -- the run has its first row
-        pub rows_stuck : (next : ℕ) → g ≡ At next → next ≤ i → ⊥
+        pub rows_stuck : (next : ℕ) → g ≡ Some next → next ≤ i → ⊥
         unfolding Ran
         rows_stuck next z h =
-            let t : Ran (machine w) p s i (At next) = subst (Ran (machine w) p s i) z ran in
+            let t : Ran (machine w) p s i (Some next) = subst (Ran (machine w) p s i) z ran in
             let holds : contains (region_at (machine w) p s) (page_start (page_at (mapped_of (machine w) p) i)) ≡ true = ap (λ (y : ℕ). contains (region_at (machine w) p y) (page_start (page_at (mapped_of (machine w) p) i))) e ∙ ap (λ (y : Mapping). contains (region_at (machine w) p (slot_at (machine w) p place)) (page_start y.page.0)) (sym first) ∙ slot_home.holds in
             clash holds (t.1 h (omega arith))
 

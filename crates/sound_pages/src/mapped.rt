@@ -17,20 +17,11 @@ ghost use Rattle.sound_pages.specs.MappedRows.{HeldAt, listed, FitFrom, Ran};
 use address::{PAGE_COUNT, Page, PageTableFlags, VirtAddr};
 use lookup::attached::{attached_count, slot_contains};
 use lookup::backed::{backing_from, pages_past};
-use model::{
-    ENTRIES, Entry, Found, MAPPED_PAGES, Mapping, PROCESSES, REGIONS, Region, SHARED, SLOTS,
-};
+use model::{ENTRIES, Entry, MAPPED_PAGES, Mapping, PROCESSES, REGIONS, Region, SHARED, SLOTS};
 use paging::search::{mapped_count, row_at, row_for, stands_at};
 use rows::pages::entry_at;
 use rows::sizes::pages_for;
 use rows::slots::{order_at, region_at};
-
-// What an entry tells: its page's mapping fits, and the page that row 0 would have if all pages up to this one were mapped; or it does not.
-#[derive(Clone, Copy)]
-enum Marking {
-    Fits(u64),
-    Misfits,
-}
 
 // Whether flags are a region's own, or those without WRITABLE.
 fn is_own(own: PageTableFlags, flags: PageTableFlags) -> bool
@@ -92,7 +83,7 @@ fn first_page(page: Page, row: usize) -> u64 {
 }
 
 // The row in which a page is mapped: as far from row 0 as from a first page, or else by the search.
-fn row_near(words: &[u64], process: usize, page: Page, first: u64) -> Found
+fn row_near(words: &[u64], process: usize, page: Page, first: u64) -> Option<usize>
     requires words_len { length words.now ≡ word_count }
     requires process_bound { process < 8 }
     ensures result_bound { row_found result < 128 }
@@ -100,13 +91,14 @@ fn row_near(words: &[u64], process: usize, page: Page, first: u64) -> Found
 {
     let near = page.pages_past(Page(first)) as usize;
     if stands_at(words, process, near, page) {
-        return Found::At(near);
+        return Some(near);
     }
     row_for(words, process, page)
 }
 
-// Marks the row in which the page of entry i is mapped, if the entry is of the process and allows the mapping.
-fn mark_entry(words: &[u64], process: usize, i: usize, first: u64, marks: &mut [u8]) -> Marking
+// Marks the row in which the page of entry i is mapped, if the entry is of the process and allows the mapping: the page that row 0
+// would have if all pages up to the entry's were mapped; none where the entry does not allow its page's mapping.
+fn mark_entry(words: &[u64], process: usize, i: usize, first: u64, marks: &mut [u8]) -> Option<u64>
     requires words_len { length words.now ≡ word_count }
     requires process_bound { process < 8 }
     requires i_bound { i < 512 }
@@ -115,17 +107,17 @@ fn mark_entry(words: &[u64], process: usize, i: usize, first: u64, marks: &mut [
 {
     let entry = entry_at(words, i);
     if !is_of(entry, process) {
-        return Marking::Fits(first);
+        return Some(first);
     }
-    let Found::At(row) = row_near(words, process, entry.page, first) else {
-        return Marking::Fits(first);
+    let Some(row) = row_near(words, process, entry.page, first) else {
+        return Some(first);
     };
     let mapping = row_at(words, process, row);
     if !entry_allows(words, entry, mapping) {
-        return Marking::Misfits;
+        return None;
     }
     marks[row] = 1;
-    Marking::Fits(first_page(entry.page, row))
+    Some(first_page(entry.page, row))
 }
 
 // Marks the mapped rows whose pages have an entry; no where a mapping is not what its entry allows. The process's entries lie from
@@ -139,13 +131,11 @@ fn mark_entries(words: &[u64], process: usize, from: usize, to: usize, marks: &m
     ensures { Laid (machine words.now) → Spanned (machine words.now) process from to → Seen (machine words.now) process 0 marks.old → AfterAll (machine words.now) process marks.new result }
 {
     let mut first = 0;
-    let mut i = from;
-    while i < to {
-        let Marking::Fits(next) = mark_entry(words, process, i, first, marks) else {
+    for i in from..to {
+        let Some(next) = mark_entry(words, process, i, first, marks) else {
             return false;
         };
         first = next;
-        i += 1;
     }
     true
 }
@@ -173,21 +163,19 @@ fn range_allows(words: &[u64], region: Region, mapping: Mapping) -> bool
 }
 
 // The first place of a process's list, from one up to another, whose region holds an address.
-fn place_for(words: &[u64], process: usize, addr: VirtAddr, from: usize, to: usize) -> Found
+fn place_for(words: &[u64], process: usize, addr: VirtAddr, from: usize, to: usize) -> Option<usize>
     requires words_len { length words.now ≡ word_count }
     requires process_bound { process < 8 }
     requires to_bound { to ≤ 64 }
     ensures { HeldAt (machine words.now) process addr.0 from to result }
 {
-    let mut i = from;
-    while i < to {
+    for i in from..to {
         let slot = order_at(words, process * SLOTS + i) as usize;
         if slot_contains(words, process, slot, addr) {
-            return Found::At(i);
+            return Some(i);
         }
-        i += 1;
     }
-    Found::Nothing
+    None
 }
 
 // The place after the next one, or the end of the list.
@@ -203,7 +191,7 @@ fn two_from(near: usize, count: usize) -> usize
 
 // The place of the attached region in which a page starts: the one after a place, or else any. No region holds a page past the user
 // addresses.
-fn home_place(words: &[u64], process: usize, page: Page, near: usize) -> Found
+fn home_place(words: &[u64], process: usize, page: Page, near: usize) -> Option<usize>
     requires words_len { length words.now ≡ word_count }
     requires process_bound { process < 8 }
     requires near_bound { near < 64 }
@@ -211,15 +199,15 @@ fn home_place(words: &[u64], process: usize, page: Page, near: usize) -> Found
     ensures result_value { Laid (machine words.now) → listed (machine words.now) process result ≡ home_at (machine words.now) process page.0 }
 {
     if page.0 >= PAGE_COUNT {
-        return Found::Nothing;
+        return None;
     }
     let start = page.start_address();
     let count = attached_count(words, process);
     let to = two_from(near, count);
-    let Found::At(place) = place_for(words, process, start, near + 1, to) else {
+    let Some(place) = place_for(words, process, start, near + 1, to) else {
         return place_for(words, process, start, 0, count);
     };
-    Found::At(place)
+    Some(place)
 }
 
 // Whether a page is one of so many pages from a first one on.
@@ -245,31 +233,29 @@ fn is_backed(words: &[u64], region: Region, mapping: Mapping, mark: u8) -> bool
 
 // Goes through a process's mapped rows, from one on, as long as they start in the region of an attached slot: the row after them, or
 // nothing where one of them does not fit.
-fn run_fits(words: &[u64], process: usize, slot: usize, from: usize, marks: &[u8]) -> Found
+fn run_fits(words: &[u64], process: usize, slot: usize, from: usize, marks: &[u8]) -> Option<usize>
     requires words_len { length words.now ≡ word_count }
     requires process_bound { process < 8 }
     requires marks_len { length marks.now ≡ 128 }
     ensures { Laid (machine words.now) → Seen (machine words.now) process 512 marks.now → is_attached (machine words.now) process slot ≡ true → FitFrom (machine words.now) process from → Ran (machine words.now) process slot from result }
 {
     if slot >= SLOTS {
-        return Found::Nothing;
+        return None;
     }
     let region = region_at(words, process * SLOTS + slot);
     let first = Page::containing_address(region.start);
     let pages = pages_for(region.size);
     let n = mapped_count(words, process);
-    let mut i = from;
-    while i < n {
+    for i in from..n {
         let mapping = row_at(words, process, i);
         if !is_among(mapping.page, first, pages) {
-            return Found::At(i);
+            return Some(i);
         }
         if !is_backed(words, region, mapping, marks[i]) {
-            return Found::Nothing;
+            return None;
         }
-        i += 1;
     }
-    Found::At(i)
+    Some(n)
 }
 
 // Whether every mapped page of a process fits, where those that have an entry are marked. Pages rise, so rows of one home follow each
@@ -283,13 +269,14 @@ fn rows_fit(words: &[u64], process: usize, marks: &[u8]) -> bool
     let n = mapped_count(words, process);
     let mut near = 0;
     let mut i = 0;
+    // A `while`: a turn passes a whole run of rows, not one.
     while i < n {
         let mapping = row_at(words, process, i);
-        let Found::At(place) = home_place(words, process, mapping.page, near) else {
+        let Some(place) = home_place(words, process, mapping.page, near) else {
             return false;
         };
         let slot = order_at(words, process * SLOTS + place) as usize;
-        let Found::At(next) = run_fits(words, process, slot, i, marks) else {
+        let Some(next) = run_fits(words, process, slot, i, marks) else {
             return false;
         };
         if next <= i {
@@ -340,16 +327,13 @@ fn span_entries(words: &[u64], firsts: &mut [usize], pasts: &mut [usize])
     ensures { Spans (machine words.now) firsts.new pasts.new 512 }
 {
     let mut last = PROCESSES;
-    let mut i = 0;
-    while i < ENTRIES {
-        let row = i;
-        let entry = entry_at(words, row);
+    for i in 0..ENTRIES {
+        let entry = entry_at(words, i);
         let process = process_of(entry);
-        i += 1;
         if process == PROCESSES {
             continue;
         }
-        pasts[process] = i;
+        pasts[process] = i + 1;
         if process == last {
             continue;
         }
@@ -357,11 +341,13 @@ fn span_entries(words: &[u64], firsts: &mut [usize], pasts: &mut [usize])
         if firsts[process] != ENTRIES {
             continue;
         }
-        firsts[process] = row;
+        firsts[process] = i;
     }
 }
 
 // R4 and R5 of every process.
+// Its own frame: inlined, the stages of the test together exceed the system call's 2 KB of stack.
+#[inline(never)]
 pub fn mapped_fit(words: &[u64]) -> bool
     requires { length words.now ≡ word_count }
     ensures { Laid (machine words.now) → result ≡ (r4b (machine words.now) && r5b (machine words.now)) }
@@ -369,12 +355,10 @@ pub fn mapped_fit(words: &[u64]) -> bool
     let mut firsts: [usize; PROCESSES] = [ENTRIES; PROCESSES];
     let mut pasts: [usize; PROCESSES] = [0; PROCESSES];
     span_entries(words, &mut firsts, &mut pasts);
-    let mut i = 0;
-    while i < PROCESSES {
+    for i in 0..PROCESSES {
         if !process_mapped_fit(words, i, firsts[i], pasts[i]) {
             return false;
         }
-        i += 1;
     }
     true
 }

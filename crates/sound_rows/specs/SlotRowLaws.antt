@@ -1,9 +1,8 @@
 -- Laws of `SlotRow`: creation's limits of a region in four parts: place, rights, content, range.
-use Rattle.std.specs.Prelude.{◌≡◌, refl, Bool, true, false, ◌&&◌, cond, ℕ}
+use Rattle.std.specs.Prelude.{◌≡◌, refl, Bool, true, false, ◌&&◌, cond, ℕ, Option, Some, None, is_some}
 use Rattle.std.proofs.Common.{ap, ◌∙◌}
 use Rattle.std.proofs.Math.Bool.{and_assoc}
-use Rattle.address.specs.declared.flags.CheckedFlags.{CheckedFlags}
-use Rattle.address.specs.declared.flags.CheckedFlags.TheVariants.{Good, Bad}
+use Rattle.address.specs.declared.flags.PageTableFlags.{PageTableFlags}
 use Rattle.address.specs.Flags.{good_flags, checked_flags}
 use Rattle.model.specs.declared.Region.{Region}
 use Rattle.model.specs.Machine.{Machine}
@@ -20,14 +19,10 @@ pub limits_by : (m : Machine) (r : Region) (x : Bool) → x ≡ (place_fits r &&
 limits_by m r x e = e ∙ limits_parts m r
 
 -- flags are good exactly where checked construction gives them
-abbrev pub is_good : CheckedFlags → Bool
-is_good (Good f) = true
-is_good Bad = false
-
-pub good_checked : (n : ℕ) (f : CheckedFlags) → f ≡ checked_flags n → is_good f ≡ good_flags n
+pub good_checked : (n : ℕ) (f : Option PageTableFlags) → f ≡ checked_flags n → is_some f ≡ good_flags n
 unfolding checked_flags
-good_checked n f e = ap is_good e ∙ both (good_flags n)
+good_checked n f e = ap is_some e ∙ both (good_flags n)
   where
-    both : (b : Bool) → is_good (cond b (Good (record { 0 = n })) Bad) ≡ b
+    both : (b : Bool) → is_some {T = PageTableFlags} (cond b (Some (record { 0 = n })) None) ≡ b
     both true = refl
     both false = refl

@@ -20,13 +20,11 @@ pub fn entries_fit(words: &[u64]) -> bool
     requires { length words.now ≡ word_count }
     ensures { result ≡ all_rows (λ i e. entry_fits (machine words.now) e) 0 (machine words.now).entries }
 {
-    let mut i = 0;
-    while i < ENTRIES {
+    for i in 0..ENTRIES {
         let row = entry_at(words, i);
         if !entry_fits(words, row) {
             return false;
         }
-        i += 1;
     }
     true
 }

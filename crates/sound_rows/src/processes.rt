@@ -16,13 +16,11 @@ pub fn processes_fit(words: &[u64]) -> bool
     requires { length words.now ≡ word_count }
     ensures { result ≡ each_process (machine words.now) (process_fits (machine words.now)) }
 {
-    let mut i = 0;
-    while i < PROCESSES {
+    for i in 0..PROCESSES {
         let row = process_at(words, i);
         if !process_fits(words, i, row) {
             return false;
         }
-        i += 1;
     }
     true
 }
@@ -89,13 +87,11 @@ fn no_region(words: &[u64], process: usize) -> bool
     requires process_bound { process < 8 }
     ensures { result ≡ all_rows no_slot 0 (regions_of (machine words.now) process) }
 {
-    let mut i = 0;
-    while i < SLOTS {
+    for i in 0..SLOTS {
         let region = region_at(words, process * SLOTS + i);
         if region.kind != FREE {
             return false;
         }
-        i += 1;
     }
     true
 }

@@ -31,13 +31,11 @@ pub fn files_fit(words: &[u64], bytes: usize) -> bool
     ensures { result ≡ all_rows (file_fits_in (machine words.now).file_count bytes) 0 (machine words.now).files }
 {
     let count = file_count(words);
-    let mut i = 0;
-    while i < FILES {
+    for i in 0..FILES {
         let row = file_at(words, i);
         if !file_fits(count as usize, bytes, i, row) {
             return false;
         }
-        i += 1;
     }
     true
 }

@@ -6,7 +6,7 @@ ghost use Rattle.laws.specs.Tests.{all_rows};
 ghost use Rattle.model.specs.SoundTest.{free_region, limitsb, region_fits};
 ghost use Rattle.sound_rows.specs.SlotRow.{place_fits, own_rights, shared_rights, rights_fit, file_part, no_file_part, content_fits, range_fits};
 
-use address::{CheckedFlags, PAGE_SIZE, PageTableFlags, USER_END};
+use address::{PAGE_SIZE, PageTableFlags, USER_END};
 use lookup::backed::backing_from;
 use model::{COPY_ON_WRITE, FILE_BACKED, FREE, MOST_PINS, REGIONS, Region, SHARED};
 use rows::files::file_count;
@@ -18,13 +18,11 @@ pub fn regions_fit(words: &[u64]) -> bool
     requires { length words.now ≡ word_count }
     ensures { result ≡ all_rows (λ i x. region_fits (machine words.now) x) 0 (machine words.now).regions }
 {
-    let mut i = 0;
-    while i < REGIONS {
+    for i in 0..REGIONS {
         let row = region_at(words, i);
         if !region_fits(words, row) {
             return false;
         }
-        i += 1;
     }
     true
 }
@@ -142,10 +140,7 @@ fn own_rights(region: Region) -> bool
 fn good_flags(flags: PageTableFlags) -> bool
     ensures { result ≡ good_flags flags.0 }
 {
-    match PageTableFlags::from_bits(flags.0) {
-        CheckedFlags::Good(known) => return true,
-        CheckedFlags::Bad => return false,
-    }
+    PageTableFlags::from_bits(flags.0).is_some()
 }
 
 // Whether a file-backed region's file part fits, and any other has none.

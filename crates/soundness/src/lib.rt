@@ -2,12 +2,14 @@
 // less than 1 KB of marks on the stack at any time.
 #![tactic(auto)]
 
-ghost use Rattle.std.specs.Prelude.{◌≡◌, ◌≤◌, length};
+ghost use Rattle.std.specs.Prelude.{◌≡◌, ◌≤◌, length, cond, Ok, Err};
+ghost use Rattle.answers.specs.declared.Refusal.TheVariants.{BadTable};
 ghost use Rattle.model.specs.Layout.{word_count, machine};
 ghost use Rattle.soundness.specs.SoundLent.{sound_lent};
 ghost use Rattle.soundness.specs.Stages.{records_fit, lists_fit, frames_fit};
 ghost use Rattle.sound_frames.specs.OnePage.{HoldersFit};
 
+use answers::Refusal;
 use rows::WORD_COUNT;
 use sound_frames::backings::backings_fit;
 use sound_frames::holders::counted;
@@ -23,6 +25,8 @@ use sound_rows::sizes::{files_fit, sized};
 use sound_rows::slots::regions_fit;
 
 // Counts, lengths and every row's limits.
+// Its own frame: inlined, the stages of the test together exceed the system call's 2 KB of stack.
+#[inline(never)]
 fn records_fit(words: &[u64], frames: usize, files: usize) -> bool
     requires { length words.now ≡ word_count }
     ensures { result ≡ records_fit (machine words.now) frames files }
@@ -43,6 +47,8 @@ fn records_fit(words: &[u64], frames: usize, files: usize) -> bool
 }
 
 // Lists in their orders, segments apart, entries one a page.
+// Its own frame: inlined, the stages of the test together exceed the system call's 2 KB of stack.
+#[inline(never)]
 fn lists_fit(words: &[u64]) -> bool
     requires { length words.now ≡ word_count }
     ensures { result ≡ lists_fit (machine words.now) }
@@ -60,6 +66,8 @@ fn lists_fit(words: &[u64]) -> bool
 }
 
 // Frames, their backings and who holds them.
+// Its own frame: inlined, the stages of the test together exceed the system call's 2 KB of stack.
+#[inline(never)]
 fn frames_fit(words: &[u64]) -> bool
     requires words_len { length words.now ≡ word_count }
     requires words_bound { (machine words.now).frame_count ≤ 256 }
@@ -91,4 +99,14 @@ pub fn is_sound(words: &[u64], frames: &[u8], files: &[u8]) -> bool
         return false;
     }
     mapped_fit(words)
+}
+
+// BadTable, unless the lent memory is a sound machine.
+pub fn check_sound(words: &[u64], frames: &[u8], files: &[u8]) -> Result<(), Refusal>
+    ensures { result ≡ cond (sound_lent words.now frames.now files.now) (Ok tt) (Err BadTable) }
+{
+    if is_sound(words, frames, files) {
+        return Ok(());
+    }
+    Err(Refusal::BadTable)
 }

@@ -1,11 +1,10 @@
 -- A region split at a bound, and at both: what the code needs, and that it leaves what the model says.
-use Rattle.std.specs.Prelude.{◌≡◌, refl, Bool, ℕ, ◌+◌, ◌-◌, ◌^◌, ◌<◌, set}
+use Rattle.std.specs.Prelude.{◌≡◌, refl, Bool, ℕ, ◌+◌, ◌-◌, ◌^◌, ◌<◌, set, Some, None}
 use Rattle.std.proofs.Math.Path.{ap, subst}
 use Rattle.std.proofs.Common.{sym, ◌∙◌}
 use Rattle.std.proofs.Math.Bool.{true, false}
 use Rattle.std.proofs.lemmas.Bool.{false≢true}
 use Rattle.model.specs.declared.Region.{Region}
-use Rattle.model.specs.declared.Found.TheVariants.{At, Nothing}
 use Rattle.model.specs.Machine.{Machine, region_at, row_of, with_region, with_regions}
 use Rattle.model.specs.Lookup.{free_slot, is_found, row_found}
 use Rattle.model.specs.Carve.{strictly_inside, low_part, high_part, give_entries, split_at, push, Rest, split_bound, split_at_bounds}
@@ -44,7 +43,7 @@ module _ (m : Machine) (p s b : ℕ) (r : Region) (read : r ≡ region_at m p s)
     pub bound_sum : (region_at m p s).offset + (b - (region_at m p s).start.0) < 2 ^ 64
     bound_sum = k.sum (inside_is true inside)
 
-    pub bound_none : Nothing ≡ free_slot m p → (n : Machine) (x : ℕ) → Bounds m p s b n x
+    pub bound_none : None ≡ free_slot m p → (n : Machine) (x : ℕ) → Bounds m p s b n x
     bound_none e n x = absurd (false≢true (ap is_found e ∙ bound_found))
 
     -- the list is as it was
@@ -52,7 +51,7 @@ module _ (m : Machine) (p s b : ℕ) (r : Region) (read : r ≡ region_at m p s)
     unfolding cut_at give_entries
     bound_room t n e = subst (λ (z : Machine). Room z p) (sym e) (let q = k.room (inside_is true inside) in record { few = q.few; free = q.free })
 
-    pub bound_split : (t : ℕ) → At t ≡ free_slot m p → (n o : Machine) → n ≡ cut_at m p s t b → o ≡ push n p s → Bounds m p s b o t
+    pub bound_split : (t : ℕ) → Some t ≡ free_slot m p → (n o : Machine) → n ≡ cut_at m p s t b → o ≡ push n p s → Bounds m p s b o t
     unfolding split_bound split_at cut_at
     bound_split t f n o e g =
         let i = inside_is true inside in

@@ -8,7 +8,7 @@ ghost use Rattle.split.specs.SplitBound.{cut_at, Splittable, Bounded};
 use crate::give::give_entries;
 use crate::list::push;
 use lookup::search::free_slot;
-use model::{Found, SLOTS};
+use model::SLOTS;
 use rows::slots::{put_region, region_at};
 use split_parts::{high_part, is_strictly_inside, low_part};
 
@@ -41,7 +41,7 @@ fn split_bound(words: &mut [u64], process: usize, slot: usize, at: u64) -> usize
     if !is_strictly_inside(region, at) {
         return slot;
     }
-    let Found::At(new) = free_slot(&words[..], process) else {
+    let Some(new) = free_slot(&words[..], process) else {
         return slot;
     };
     cut(words, process, slot, new, at);

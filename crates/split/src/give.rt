@@ -22,14 +22,7 @@ fn give_entry(words: &mut [u64], i: usize, owner: u64, page: Page, new: u64)
     if e.page.0 < page.0 {
         return;
     }
-    let at = e.page;
-    let frame = e.frame;
-    let row = Entry {
-        owner: new,
-        page: at,
-        frame: frame,
-    };
-    put_entry(words, i, row);
+    put_entry(words, i, Entry { owner: new, ..e });
 }
 
 // Gives the entries of the region in a row, from the page at an address on, to the region in another row.
@@ -40,9 +33,7 @@ pub fn give_entries(words: &mut [u64], row: usize, at: u64, new: usize)
     ensures { machine words.new ≡ give_entries (machine words.old) row at new }
 {
     let page = Page::containing_address(VirtAddr(at));
-    let mut i = 0;
-    while i < ENTRIES {
+    for i in 0..ENTRIES {
         give_entry(words, i, row as u64 + 1, page, new as u64 + 1);
-        i += 1;
     }
 }

@@ -1,33 +1,13 @@
 // The parts of a region that is split at an address: the Rust's split of the three kinds.
 #![tactic(auto)]
 
-ghost use Rattle.std.specs.Prelude.{◌≡◌, ◌+◌, ◌-◌, ◌*◌, ◌<◌, ◌^◌, min};
+ghost use Rattle.std.specs.Prelude.{◌≡◌, ◌+◌, ◌-◌, ◌*◌, ◌<◌, ◌^◌};
 ghost use Rattle.model.specs.Lookup.{is_file};
 ghost use Rattle.model.specs.Create.{one};
 ghost use Rattle.model.specs.Carve.{strictly_inside, low_part, high_part};
 
 use address::VirtAddr;
 use model::{FILE_BACKED, Region};
-
-// A number less another, and 0 where that is larger.
-fn less(a: u64, b: u64) -> u64
-    ensures { result ≡ a - b }
-{
-    if a < b {
-        return 0;
-    }
-    a - b
-}
-
-// The lower of two numbers.
-fn lower(a: u64, b: u64) -> u64
-    ensures { result ≡ min a b }
-{
-    if a <= b {
-        return a;
-    }
-    b
-}
 
 // Where the bytes of a part begin in the file, which lies some bytes past the region's start.
 fn offset_past(region: Region, past: u64) -> u64
@@ -54,22 +34,11 @@ pub fn is_strictly_inside(region: Region, at: u64) -> bool
 pub fn low_part(region: Region, at: u64) -> Region
     ensures { result ≡ low_part region at }
 {
-    let low = less(at, region.start.0);
-    let flags = region.flags;
-    let range = region.range;
+    let size = at.saturating_sub(region.start.0);
     Region {
-        kind: region.kind,
-        start: VirtAddr(region.start.0),
-        size: low,
-        flags: flags,
-        fork: region.fork,
-        per_thread: region.per_thread,
-        pins: region.pins,
-        file: region.file,
-        offset: region.offset,
-        length: lower(region.length, low),
-        ranged: region.ranged,
-        range: range,
+        size,
+        length: region.length.min(size),
+        ..region
     }
 }
 
@@ -78,21 +47,12 @@ pub fn high_part(region: Region, at: u64) -> Region
     requires { region.offset + (at - region.start.0) < 2 ^ 64 }
     ensures { result ≡ high_part region at }
 {
-    let low = less(at, region.start.0);
-    let flags = region.flags;
-    let range = region.range;
+    let low = at.saturating_sub(region.start.0);
     Region {
-        kind: region.kind,
         start: VirtAddr(at),
-        size: less(region.size, low),
-        flags: flags,
-        fork: region.fork,
-        per_thread: region.per_thread,
-        pins: region.pins,
-        file: region.file,
+        size: region.size.saturating_sub(low),
         offset: offset_past(region, low),
-        length: less(region.length, low),
-        ranged: region.ranged,
-        range: range,
+        length: region.length.saturating_sub(low),
+        ..region
     }
 }

@@ -1,5 +1,4 @@
 -- What the text of the state is stated and proved by.
 pub mod Left
-pub mod LeftLaws
 pub mod Sum
 pub mod SumLaws

@@ -1,11 +1,11 @@
 // A place in the text of the machine's state, and the places after it.
-ghost use Rattle.std.specs.Prelude.{◌≡◌, ◌<◌, false};
-ghost use Rattle.state_text.specs.Left.{left, Going};
+ghost use Rattle.std.specs.Prelude.{◌≡◌, ◌<◌};
+ghost use Rattle.state_text.specs.Left.{left};
 
 use address::Page;
 use text::Row;
 
-// A place in the text of the state.
+// A place in the text of the state. A number, and no enum of kinds of places, because `left` counts down from it.
 #[derive(Clone, Copy)]
 pub struct Cursor {
     // 0 for the line of all frames; then 257 places for each of 8 processes: its own line, 64 for attached regions, 64 for detached
@@ -18,59 +18,52 @@ pub struct Cursor {
     pub page: u64,
     // The start from which the process's next detached region is looked for.
     pub start: u64,
-    // Whether the text has ended.
-    pub done: bool,
 }
 
-// A line of the text, and what comes next.
+// A line of the text, if the place has one, and the place after it, if the text goes on.
 #[derive(Clone, Copy)]
 pub struct Line {
-    pub row: Row,
-    pub cursor: Cursor,
+    pub row: Option<Row>,
+    pub next: Option<Cursor>,
 }
 
-// Where the text put so far ends, and what comes next.
+// Where the text put so far ends, and the place after it, if the text goes on.
 #[derive(Clone, Copy)]
 pub struct Shown {
     pub at: usize,
-    pub cursor: Cursor,
+    pub next: Option<Cursor>,
 }
 
 impl Cursor {
     // The start of the text.
-    pub fn new() -> Cursor
-        ensures { result.done ≡ false }
-    {
+    pub fn new() -> Cursor {
         Cursor {
             place: 0,
             shown: 0,
             row: 0,
             page: 0,
             start: 0,
-            done: false,
         }
     }
 
     // The next place, with the start from which a detached region is looked for.
+    #[tactic(auto, unfolding(crate::specs::Left::left))]
     pub fn next(self, start: u64) -> Cursor
-        requires { Going self }
-        ensures { left result < left self }
+        requires { self.place < 2314 }
+        ensures { left (Some result) < left (Some self) }
     {
         Cursor {
             place: self.place + 1,
-            shown: 0,
-            row: 0,
-            page: 0,
             start,
-            done: false,
+            ..Cursor::new()
         }
     }
 
     // The same place once its region's line is put.
+    #[tactic(auto, unfolding(crate::specs::Left::left))]
     pub fn inside(self, row: usize, start: u64) -> Cursor
-        requires done_value { self.done ≡ false }
-        requires shown_value { self.shown ≡ 0 }
-        ensures { left result < left self }
+        requires { self.shown ≡ 0 }
+        ensures { left (Some result) < left (Some self) }
     {
         Cursor {
             place: self.place,
@@ -78,38 +71,19 @@ impl Cursor {
             row,
             page: 0,
             start,
-            done: false,
         }
     }
 
     // The same place once the entry of a page is put.
+    #[tactic(auto, unfolding(crate::specs::Left::left))]
     pub fn past(self, page: Page) -> Cursor
-        requires done_value { self.done ≡ false }
-        requires shown_bound { self.shown < 513 }
-        ensures { left result < left self }
+        requires { self.shown < 513 }
+        ensures { left (Some result) < left (Some self) }
     {
         Cursor {
-            place: self.place,
             shown: self.shown + 1,
-            row: self.row,
-            page: std::num::wrapping_add_u64(page.0, 1),
-            start: self.start,
-            done: false,
-        }
-    }
-
-    // The end of the text.
-    pub fn ended(self) -> Cursor
-        requires { self.done ≡ false }
-        ensures { left result < left self }
-    {
-        Cursor {
-            place: self.place,
-            shown: 0,
-            row: 0,
-            page: 0,
-            start: 0,
-            done: true,
+            page: page.0.wrapping_add(1),
+            ..self
         }
     }
 }

@@ -1,19 +1,15 @@
 -- From the core of a call to one step of the model.
-use Rattle.std.specs.Prelude.{◌≡◌, ℕ, Bool, true, false, not, List, [], ◌∷◌}
+use Rattle.std.specs.Prelude.{◌≡◌, ℕ, Bool, true, false, not, List, [], ◌∷◌, Result, Ok, Err, ⊤}
 use Rattle.std.proofs.Math.Path.{refl}
 use Rattle.std.proofs.Common.{ap, sym, ◌∙◌, true≢false}
+use Rattle.address.specs.declared.VirtAddr.{VirtAddr}
 use Rattle.answers.specs.declared.Refusal.{Refusal}
 use Rattle.answers.specs.declared.Refusal.TheVariants.{BadTable}
 use Rattle.model.specs.declared.Answer.{Answer}
 use Rattle.model.specs.declared.Answer.TheVariants as says
 use Rattle.model.specs.declared.Call.{Call}
 use Rattle.model.specs.declared.Counted.{Counted}
-use Rattle.model.specs.declared.Covering.{Covering}
-use Rattle.model.specs.declared.Done.{Done}
-use Rattle.model.specs.declared.Done.TheVariants.{Yes, No}
 use Rattle.model.specs.declared.Listed.{Listed}
-use Rattle.model.specs.declared.Loaded.{Loaded}
-use Rattle.model.specs.declared.Placed.{Placed}
 use Rattle.model.specs.Answers.{After, Reply, leaving, first_of, of_listed}
 use Rattle.model.specs.Calls.{decided, guarded, sound, region, regions, covers, load}
 use Rattle.model.specs.Machine.{State}
@@ -41,9 +37,9 @@ keeps_guarded : {A : Type 0} (s : State) (refusal : Refusal → A) (tests : List
 unfolding guarded
 keeps_guarded s refusal tests t e = go (first_of ((not (soundb s), BadTable) ∷ tests))
   where
-    go : (d : Done) → (decided d refusal s t).state ≡ s
-    go Yes = e
-    go (No r) = refl
+    go : (d : Result ⊤ Refusal) → (decided d refusal s t).state ≡ s
+    go (Ok tt) = e
+    go (Err r) = refl
 
 looked : {A : Type 0} (t : After A) (s : State) (r : A) → t.state ≡ s → r ≡ t.answer → t ≡ leaving r s
 looked t s r k e = λ i. record { answer = sym e i; state = k i }
@@ -65,20 +61,20 @@ module _ (s : State) where
   unfolding load
   load_keeps p a = keeps_guarded s _ _ _ refl
 
-  pub sound_looked : soundb s ≡ true → sound s ≡ leaving Yes s
+  pub sound_looked : soundb s ≡ true → sound s ≡ leaving (Ok tt) s
   unfolding sound
-  sound_looked e = granted s No [] _ e first_none
+  sound_looked e = granted s Err [] _ e first_none
 
-  pub region_looked : (p a : ℕ) (r : Placed) → r ≡ (region s p a).answer → region s p a ≡ leaving r s
+  pub region_looked : (p a : ℕ) (r : Result VirtAddr Refusal) → r ≡ (region s p a).answer → region s p a ≡ leaving r s
   region_looked p a r e = looked (region s p a) s r (region_keeps p a) e
 
   pub regions_looked : (p : ℕ) (r : Listed) → r ≡ (regions s p).answer → regions s p ≡ leaving r s
   regions_looked p r e = looked (regions s p) s r (regions_keeps p) e
 
-  pub covers_looked : (p a end : ℕ) (r : Covering) → r ≡ (covers s p a end).answer → covers s p a end ≡ leaving r s
+  pub covers_looked : (p a end : ℕ) (r : Result Bool Refusal) → r ≡ (covers s p a end).answer → covers s p a end ≡ leaving r s
   covers_looked p a end r e = looked (covers s p a end) s r (covers_keeps p a end) e
 
-  pub load_looked : (p a : ℕ) (r : Loaded) → r ≡ (load s p a).answer → load s p a ≡ leaving r s
+  pub load_looked : (p a : ℕ) (r : Result ℕ Refusal) → r ≡ (load s p a).answer → load s p a ≡ leaving r s
   load_looked p a r e = looked (load s p a) s r (load_keeps p a) e
 
 -- ---- a step

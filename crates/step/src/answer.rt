@@ -3,41 +3,41 @@ ghost use Rattle.std.specs.Prelude.{◌≡◌};
 ghost use Rattle.model.specs.Meant.{refused, counts};
 
 use answers::Refusal;
-use model::{Answer, Call, Counted, Covering, Done, Loaded, Opened, Placed};
+use model::{Answer, Call, Counted};
 
 // A refusal of a call.
 pub fn refused(call: Call, why: Refusal) -> Answer
     ensures { result ≡ refused call why }
 {
     match call {
-        Call::Sound => Answer::Done(Done::No(why)),
-        Call::Open { .. } => Answer::Opened(Opened::No(why)),
-        Call::Close { .. } => Answer::Done(Done::No(why)),
-        Call::CreatePrivate { .. } => Answer::Placed(Placed::No(why)),
-        Call::CreateFile { .. } => Answer::Placed(Placed::No(why)),
-        Call::CreateShared { .. } => Answer::Placed(Placed::No(why)),
-        Call::Remove { .. } => Answer::Done(Done::No(why)),
-        Call::Clear { .. } => Answer::Done(Done::No(why)),
+        Call::Sound => Answer::Done(Err(why)),
+        Call::Open { .. } => Answer::Opened(Err(why)),
+        Call::Close { .. } => Answer::Done(Err(why)),
+        Call::CreatePrivate { .. } => Answer::Placed(Err(why)),
+        Call::CreateFile { .. } => Answer::Placed(Err(why)),
+        Call::CreateShared { .. } => Answer::Placed(Err(why)),
+        Call::Remove { .. } => Answer::Done(Err(why)),
+        Call::Clear { .. } => Answer::Done(Err(why)),
         Call::Carve { .. } => Answer::Counted(Counted {
-            done: Done::No(why),
+            done: Err(why),
             count: 0,
         }),
-        Call::Covers { .. } => Answer::Covering(Covering::No(why)),
-        Call::Region { .. } => Answer::Placed(Placed::No(why)),
+        Call::Covers { .. } => Answer::Covering(Err(why)),
+        Call::Region { .. } => Answer::Placed(Err(why)),
         Call::Regions { .. } => Answer::Counted(Counted {
-            done: Done::No(why),
+            done: Err(why),
             count: 0,
         }),
-        Call::Fault { .. } => Answer::Done(Done::No(why)),
-        Call::Populate { .. } => Answer::Done(Done::No(why)),
-        Call::Eager { .. } => Answer::Done(Done::No(why)),
-        Call::CloneRegion { .. } => Answer::Done(Done::No(why)),
-        Call::Clone { .. } => Answer::Done(Done::No(why)),
-        Call::Protect { .. } => Answer::Done(Done::No(why)),
-        Call::Pin { .. } => Answer::Done(Done::No(why)),
-        Call::Unpin { .. } => Answer::Done(Done::No(why)),
-        Call::Load { .. } => Answer::Loaded(Loaded::No(why)),
-        Call::Store { .. } => Answer::Done(Done::No(why)),
+        Call::Fault { .. } => Answer::Done(Err(why)),
+        Call::Populate { .. } => Answer::Done(Err(why)),
+        Call::Eager { .. } => Answer::Done(Err(why)),
+        Call::CloneRegion { .. } => Answer::Done(Err(why)),
+        Call::Clone { .. } => Answer::Done(Err(why)),
+        Call::Protect { .. } => Answer::Done(Err(why)),
+        Call::Pin { .. } => Answer::Done(Err(why)),
+        Call::Unpin { .. } => Answer::Done(Err(why)),
+        Call::Load { .. } => Answer::Loaded(Err(why)),
+        Call::Store { .. } => Answer::Done(Err(why)),
     }
 }
 

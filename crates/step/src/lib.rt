@@ -17,7 +17,7 @@ use clone_process::clone_core;
 use clone_region::clone_region_core;
 use create::kinds::{create_file, create_private, create_shared};
 use fault::fault_core;
-use model::{Answer, Call, Done};
+use model::{Answer, Call};
 use pins::{pin_core, unpin_core};
 use populate::populate_core;
 use populate_eager::eager_core;
@@ -43,7 +43,7 @@ pub fn step(
     ensures result_value { kind_of result ≡ kind_for asked }
 {
     match asked {
-        Call::Sound => Answer::Done(Done::Yes),
+        Call::Sound => Answer::Done(Ok(())),
         Call::Open { start, size } => Answer::Opened(open_core(words, start, size)),
         Call::Close { process } => Answer::Done(close_core(words, process)),
         Call::CreatePrivate {

@@ -4,6 +4,6 @@ pub mod LinesLaws
 pub mod Numeral
 pub mod NumeralLaws
 pub mod LineWords
-pub mod LineWordsLaws
 pub mod Write
 pub mod WriteLaws
+pub mod RowLaws

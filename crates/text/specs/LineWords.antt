@@ -1,5 +1,6 @@
 -- The words of a line: runs of bytes between blanks.
-use Rattle.std.specs.Prelude.{ℕ, suc, ◌+◌, ◌-◌, ◌≤◌, Bool, cond, ◌||◌, List, [], ◌∷◌, drop, ◌==◌}
+use Rattle.std.specs.Prelude.{ℕ, ◌+◌, ◌-◌, ◌≤◌, Bool, ◌||◌, List, length, drop, ◌==◌, not}
+use Rattle.std.specs.List.{take_while}
 use Rattle.text.specs.declared.words.Word.{Word}
 
 -- a space or a tab
@@ -8,13 +9,11 @@ blank b = b == 32 || b == 9
 
 -- how many blanks a text begins with
 unfoldable pub blanks : List ℕ → ℕ
-blanks [] = 0
-blanks (b ∷ s) = cond (blank b) (suc (blanks s)) 0
+blanks s = length (take_while blank s)
 
 -- how many bytes that are no blanks
 unfoldable pub letters : List ℕ → ℕ
-letters [] = 0
-letters (b ∷ s) = cond (blank b) 0 (suc (letters s))
+letters s = length (take_while (λ b. not (blank b)) s)
 
 -- the word that ends with the letters from `from` on
 abbrev pub word_from : List ℕ → ℕ → Word

@@ -1,11 +1,11 @@
 -- A line of a chunk of input, and a line that is gathered from several.
-use Rattle.std.specs.Prelude.{◌≡◌, ℕ, suc, ◌+◌, ◌-◌, ◌≤◌, true, false, cond, List, [], ◌∷◌, ◌++◌, length, take, ◌==◌, nat_lt, slice_index}
+use Rattle.std.specs.Prelude.{◌≡◌, ℕ, ◌+◌, ◌-◌, ◌≤◌, true, false, cond, List, ◌++◌, length, take, ◌==◌, not, nat_lt, slice_index}
+use Rattle.std.specs.List.{take_while}
 use Rattle.text.specs.declared.lines.Held.{Held}
 
 -- how many bytes stand before the first newline
 unfoldable pub line_length : List ℕ → ℕ
-line_length [] = 0
-line_length (b ∷ s) = cond (b == 10) 0 (suc (line_length s))
+line_length s = length (take_while (λ b. not (b == 10)) s)
 
 -- a line's length without a carriage return at its end
 unfoldable pub without_return : List ℕ → ℕ

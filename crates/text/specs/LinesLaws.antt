@@ -1,40 +1,39 @@
--- How the loop over a chunk finds a line's end, and the ways through gathering a line.
-use Rattle.std.specs.Prelude.{◌≡◌, ℕ, ◌+◌, ◌-◌, ◌<◌, ◌≤◌, true, false, List, length, drop, ◌≢◌, slice_index, slice_index_or}
-use Rattle.std.proofs.Common.{sym, ◌∙◌, true≢false, arith, drop_of_length-le, drop-cons}
-use Rattle.std.proofs.Math.Numerals.{add-one}
-use borrow.Author.Tests.{eq-eqb, ne_eqb, lt-ltb, le-ltb}
+-- A carriage return at a line's end, and the ways through gathering a line.
+use Rattle.std.specs.Prelude.{◌≡◌, ℕ, ◌-◌, ◌<◌, ◌≤◌, Bool, true, false, cond, ◌&&◌, List, [], ◌∷◌, length, take, drop, ◌==◌, nat_eq, slice_index, refl}
+use Rattle.std.specs.Cmp.Lexicographic.{pointwise}
+use Rattle.std.proofs.Common.{suc, sym, ◌∙◌, true≢false, arith, drop_of_length-le, drop-cons}
+use Rattle.std.proofs.Math.Seq.{take-length}
+use borrow.Author.Tests.{ne_eqb, eqb-true, eqb-false, lt-ltb, le-ltb}
 use Rattle.text.specs.declared.lines.Held.{Held}
-use Rattle.text.specs.Lines.{line_length, without_return, Gathered}
+use Rattle.text.specs.Lines.{without_return, Gathered}
 use Rattle.text.specs.Write.{Put}
 use Rattle.text.specs.WriteLaws.{up_to_end}
 
-module _ (s : List ℕ) (i : ℕ) (inside : i < length s) where
-  pub line_more : (slice_index s i ≢ 10) → i + line_length (drop i s) ≡ i + 1 + line_length (drop (i + 1) s)
-  unfolding line_length
-  line_more h = rw (drop-cons s i 0 inside, ne_eqb (slice_index s i) 10 h, add-one i) (omega arith)
-
-  pub line_here : slice_index_or s i 0 ≡ 10 → i ≡ i + line_length (drop i s)
-  unfolding line_length
-  line_here h = rw (drop-cons s i 0 inside, eq-eqb (slice_index s i) 10 h) (omega arith)
-
-pub line_past : (s : List ℕ) (i : ℕ) → length s ≤ i → i ≡ i + line_length (drop i s)
-unfolding line_length
-line_past s i h = rw (drop_of_length-le s h) (omega arith)
-
 -- ---- a carriage return
 
-pub of_none : (s : List ℕ) → length s ≡ 0 → length s ≡ without_return s
-unfolding without_return
-of_none s e = rw e
+module _ (s : List ℕ) where
+  ends_with : (0 < length s) → pointwise nat_eq (drop (length s - 1) s) (13 ∷ []) ≡ (slice_index s (length s - 1) == 13)
+  ends_with some =
+      rw (drop-cons s (length s - 1) 0 (omega arith), drop_of_length-le s {i = suc (length s - 1)} (omega arith)) (go (slice_index s (length s - 1) == 13))
+    where
+      go : (t : Bool) → (t && true) ≡ t
+      go true = refl
+      go false = refl
 
-module _ (s : List ℕ) (some : length s ≡ 0 → ⊥) where
-  pub return_left : slice_index_or s (length s - 1) 0 ≡ 13 → length s - 1 ≡ without_return s
+  pub return_left : pointwise nat_eq (drop (length s - 1) s) (13 ∷ []) ≡ true → 0 < length s → without_return s ≡ length s - 1
   unfolding without_return
-  return_left e = rw (ne_eqb (length s) 0 some, eq-eqb (slice_index s (length s - 1)) 13 e)
+  return_left e some = rw (ne_eqb (length s) 0 (omega arith), sym (ends_with some) ∙ e)
 
-  pub no_return : (slice_index s (length s - 1) ≢ 13) → length s ≡ without_return s
+  pub no_return : pointwise nat_eq (drop (length s - 1) s) (13 ∷ []) ≡ false → without_return s ≡ length s
   unfolding without_return
-  no_return e = rw (ne_eqb (length s) 0 some, ne_eqb (slice_index s (length s - 1)) 13 e)
+  no_return e = go (length s == 0) refl
+    where
+      go : (t : Bool) → (length s == 0) ≡ t → cond (length s == 0) 0 (cond (slice_index s (length s - 1) == 13) (length s - 1) (length s)) ≡ length s
+      go true z = rw z (omega (arith, eqb-true (length s) 0 z))
+      go false z = rw (z, sym (ends_with (omega (arith, eqb-false (length s) 0 z))) ∙ e)
+
+  pub nothing_taken : pointwise nat_eq (drop (length s - 1) s) (13 ∷ []) ≡ false → take (without_return s) s ≡ s
+  nothing_taken e = rw (no_return e) (take-length s)
 
 -- ---- gathering
 

@@ -1,114 +1,96 @@
 -- Reading digit by digit gives the number that the digits are worth, and a number's digits read back as the number.
-use Rattle.std.specs.Prelude.{◌≡◌, ℕ, zero, suc, ◌+◌, ◌-◌, ◌*◌, ◌/◌, ◌%◌, ◌^◌, ◌<◌, ◌≤◌, Bool, true, false, cond, ◌&&◌, List, [], ◌∷◌, ◌++◌, length, take, drop, ◌≢◌, nat_lt, slice_index, slice_index_or}
-use Rattle.std.proofs.Math.Path.{refl, ap}
-use Rattle.std.proofs.Common.{◌∙◌, arith, add-one, mul-le-mul_left, le_trans, le-add_right, div-add-mod', mod-lt, div-lt_iff_lt-mul, le-div_iff_mul-le, mul_comm, drop_of_length-le, drop-cons, take_all}
+use Rattle.std.specs.Prelude.{◌≡◌, ℕ, zero, suc, ◌+◌, ◌*◌, ◌/◌, ◌%◌, ◌^◌, ◌<◌, ◌≤◌, Bool, true, false, cond, ◌&&◌, List, [], ◌∷◌, ◌++◌, length, take, drop, ◌==◌, nat_eq, nat_lt, slice_index, Result, Ok, Err}
+use Rattle.std.proofs.Math.Path.{refl}
+use Rattle.std.specs.Cmp.Lexicographic.{pointwise}
+use Rattle.std.proofs.Common.{sym, ◌∙◌, arith, add-one, mul-le-mul_left, le_trans, le-add_right, div-add-mod', mod-lt, div-lt_iff_lt-mul, mul_comm, drop_of_length-le, drop-cons}
 use Rattle.std.proofs.Math.Nat.{pow-zero, pow-succ'}
-use Rattle.std.proofs.Math.ListN.{length-drop}
-use borrow.Author.Tests.{lt-ltb, le-ltb, ltb-true, ltb-false, le-leb, lt-leb, ne_eqb}
+use borrow.Author.Tests.{lt-ltb, le-ltb, ltb-true, ltb-false, le-leb}
 use Rattle.io.specs.Digits.{hex_digit_ascii, last_digits}
-use Rattle.text.specs.declared.number.Number.{Number}
-use Rattle.text.specs.declared.number.Number.TheVariants.{Is, TooLarge, NoNumber}
-use Rattle.text.specs.Numeral.{digit_of, digitsb, value_from, fitting, after, digits_in, number_in, with_digit, pushed, reading}
+use Rattle.text.specs.declared.number.NumberError.{NumberError}
+use Rattle.text.specs.declared.number.NumberError.TheVariants.{TooLarge, NoNumber}
+use Rattle.text.specs.Numeral.{digit_of, digitsb, value_from, fitting, digits_in, number_in, prefixed}
 
-pub spoiled : (base : ℕ) (s : List ℕ) → reading base NoNumber s ≡ NoNumber
-unfolding reading
-spoiled base [] = refl
-spoiled base (b ∷ s) = go (nat_lt (digit_of b) base) (spoiled base s)
-  where
-    go : (t : Bool) → reading base NoNumber s ≡ NoNumber → reading base (cond t NoNumber NoNumber) s ≡ NoNumber
-    go true h = h
-    go false h = h
-
--- what is too large stays so
+-- what is read never falls as digits follow
 grows : (base v d : ℕ) → 0 < base → v ≤ v * base + d
 grows base v d h = le_trans (let q : v * 1 ≤ v * base = mul-le-mul_left v h in omega (arith, q)) (le-add_right (v * base) d)
 
-pub pushed_fits : (base v d : ℕ) → 0 < base → pushed base (fitting v) d ≡ fitting (v * base + d)
-unfolding fitting
-pushed_fits base v d h = go (nat_lt v (2 ^ 64)) refl
-  where
-    go : (t : Bool) → nat_lt v (2 ^ 64) ≡ t → pushed base (cond (nat_lt v (2 ^ 64)) (Is v) TooLarge) d ≡ cond (nat_lt (v * base + d) (2 ^ 64)) (Is (v * base + d)) TooLarge
-    go true e = rw e
-    go false e = rw (e, le-ltb (v * base + d) (2 ^ 64) (le_trans (ltb-false v (2 ^ 64) e) (grows base v d h)))
+at_least : (base : ℕ) → 0 < base → (v : ℕ) (s : List ℕ) → v ≤ value_from base v s
+unfolding value_from
+at_least base h v [] = omega arith
+at_least base h v (b ∷ s) = le_trans (grows base v (digit_of b) h) (at_least base h (v * base + digit_of b) s)
 
--- digit by digit, behind digits that are worth v
-pub reads : (base : ℕ) → 0 < base → (v : ℕ) (s : List ℕ) → reading base (fitting v) s ≡ after base v s
-unfolding reading digitsb value_from
-reads base h v [] = refl
-reads base h v (b ∷ s) = go (nat_lt (digit_of b) base) refl (reads base h (v * base + digit_of b) s)
+-- ---- whether a number fits
+
+pub fitting_ok : (x v : ℕ) → fitting x ≡ Ok v → (v ≡ x) × (x < 2 ^ 64)
+unfolding fitting
+fitting_ok x v e = go (nat_lt x (2 ^ 64)) refl e
   where
-    go : (t : Bool) → nat_lt (digit_of b) base ≡ t → reading base (fitting (v * base + digit_of b)) s ≡ after base (v * base + digit_of b) s
-        → reading base (fitting v) (b ∷ s) ≡ after base v (b ∷ s)
-    go true e rest = rw (e, pushed_fits base v (digit_of b) h) rest
-    go false e rest = rw e (spoiled base s)
+    go : (t : Bool) → nat_lt x (2 ^ 64) ≡ t → ◌≡◌ {A = Result ℕ NumberError} (cond t (Ok x) (Err TooLarge)) (Ok v) → (v ≡ x) × (x < 2 ^ 64)
+    go true l q = (cc, ltb-true x (2 ^ 64) l)
+    go false l q = absurd (cc)
+
+pub fitting_err : (x : ℕ) (k : NumberError) → fitting x ≡ Err k → (k ≡ TooLarge) × (2 ^ 64 ≤ x)
+unfolding fitting
+fitting_err x k e = go (nat_lt x (2 ^ 64)) refl e
+  where
+    go : (t : Bool) → nat_lt x (2 ^ 64) ≡ t → ◌≡◌ {A = Result ℕ NumberError} (cond t (Ok x) (Err TooLarge)) (Err k) → (k ≡ TooLarge) × (2 ^ 64 ≤ x)
+    go true l q = absurd (cc)
+    go false l q = (cc, ltb-false x (2 ^ 64) l)
 
 -- ---- the loop over the digits: what is left to read gives the same
 
-pub none_read : (base : ℕ) (s : List ℕ) → length s ≡ 0 → NoNumber ≡ digits_in base s
+pub none_read : (base : ℕ) (s : List ℕ) → (length s == 0) ≡ true → Err NoNumber ≡ digits_in base s
 unfolding digits_in
 none_read base s e = rw e
 
-pub read_more : (base : ℕ) (n r : Number) (s : List ℕ) (i : ℕ) → i < length s → r ≡ with_digit base n (slice_index s i)
-    → reading base r (drop (i + 1) s) ≡ reading base n (drop i s)
-unfolding reading
-read_more base n r s i h e = rw (drop-cons s i 0 h, add-one i, e)
+module _ (base : ℕ) (s : List ℕ) where
+  pub no_digits : (length s == 0) ≡ false → digitsb base s ≡ false → Err NoNumber ≡ digits_in base s
+  unfolding digits_in
+  no_digits some e = rw (some, e)
 
-pub read_all : (base : ℕ) → 0 < base → (n : Number) (s : List ℕ) (i : ℕ) → length s ≤ i → (length s ≢ 0)
-    → reading base n (drop i s) ≡ reading base (fitting 0) s → n ≡ digits_in base s
-unfolding reading digits_in
-read_all base h n s i past some e =
-    (rw (drop_of_length-le s past) at e) ∙ reads base h 0 s ∙ rw (ne_eqb (length s) 0 some)
+  pub value_more : (v i : ℕ) → i < length s
+      → value_from base v (drop i s) ≡ value_from base (v * base + digit_of (slice_index s i)) (drop (i + 1) s)
+  unfolding value_from
+  value_more v i h = rw (drop-cons s i 0 h, add-one i)
+
+  module _ (some : (length s == 0) ≡ false) (digits : digitsb base s ≡ true) (v i : ℕ) (same : value_from base v (drop i s) ≡ value_from base 0 s) where
+    pub all_read : length s ≤ i → v < 2 ^ 64 → Ok v ≡ digits_in base s
+    unfolding digits_in fitting value_from
+    all_read past fits =
+        let e = rw (drop_of_length-le s past) at same in
+        rw (some, digits, ← e, lt-ltb v (2 ^ 64) fits)
+
+    pub too_large : 0 < base → i < length s → 2 ^ 64 ≤ v * base + digit_of (slice_index s i) → Err TooLarge ≡ digits_in base s
+    unfolding digits_in fitting
+    too_large low inside large =
+        let g = at_least base low (v * base + digit_of (slice_index s i)) (drop (i + 1) s) in
+        let l : 2 ^ 64 ≤ value_from base 0 s = omega (arith, value_more v i inside) in
+        rw (some, digits, le-ltb (value_from base 0 s) (2 ^ 64) l)
 
 -- ---- which digits a word has
 
-module _ (r : Number) (s : List ℕ) where
-  pub short : length s < 2 → r ≡ digits_in 10 s → r ≡ number_in s
+pub prefixed_is : (s : List ℕ) → pointwise nat_eq (take 2 s) (48 ∷ 120 ∷ []) ≡ prefixed s
+prefixed_is [] = refl
+prefixed_is (a ∷ []) = go (a == 48)
+  where
+    go : (t : Bool) → (t && false) ≡ false
+    go true = refl
+    go false = refl
+prefixed_is (a ∷ b ∷ s) = rw (le-leb 2 (length (a ∷ b ∷ s)) (omega arith)) (go (a == 48) (b == 120))
+  where
+    go : (t u : Bool) → (t && (u && true)) ≡ (t && u)
+    go true true = refl
+    go true false = refl
+    go false u = refl
+
+module _ (r : Result ℕ NumberError) (s : List ℕ) where
+  pub hexadecimal : pointwise nat_eq (take 2 s) (48 ∷ 120 ∷ []) ≡ true → (d : List ℕ) → d ≡ drop 2 s → r ≡ digits_in 16 d → r ≡ number_in s
   unfolding number_in
-  short h e = rw (lt-leb 2 (length s) h) e
+  hexadecimal p d is e = rw (sym (prefixed_is s) ∙ p, ← is) e
 
-  module _ (long : 2 ≤ length s) where
-    pub no_zero : (slice_index s 0 ≢ 48) → r ≡ digits_in 10 s → r ≡ number_in s
-    unfolding number_in
-    no_zero h e = rw (le-leb 2 (length s) long, ne_eqb (slice_index s 0) 48 h) e
-
-    pub no_x : slice_index_or s 0 0 ≡ 48 → (slice_index s 1 ≢ 120) → r ≡ digits_in 10 s → r ≡ number_in s
-    unfolding number_in
-    no_x z h e = rw (le-leb 2 (length s) long, z, ne_eqb (slice_index s 1) 120 h) e
-
-    pub hexadecimal : slice_index_or s 0 0 ≡ 48 → slice_index s 1 ≡ 120 → r ≡ digits_in 16 (take (length s - 2) (drop 2 s)) → r ≡ number_in s
-    unfolding number_in
-    hexadecimal z x e =
-        rw (le-leb 2 (length s) long, z, x) (e ∙ ap (digits_in 16) (take_all (length s - 2) (drop 2 s) (omega (arith, length-drop 2 s))))
-
--- ---- one digit more, as the code takes it: d is the byte's value
-
-module _ (base b d : ℕ) (is : d ≡ digit_of b) where
-  pub too_high : (n : Number) → base ≤ d → NoNumber ≡ with_digit base n b
-  too_high n h = rw (← is, le-ltb d base h)
-
-  taken : (n : Number) → d < base → with_digit base n b ≡ pushed base n d
-  taken n h = rw (← is, lt-ltb d base h)
-
-  pub stays_large : (n : Number) → n ≡ TooLarge → d < base → TooLarge ≡ with_digit base n b
-  stays_large n e h = rw (taken n h, e)
-
-  pub stays_none : (n : Number) → n ≡ NoNumber → d < base → NoNumber ≡ with_digit base n b
-  stays_none n e h = rw (taken n h, e)
-
-  module _ (v : ℕ) (low : 0 < base) (small : d < base) (high : base ≤ 16) where
-    pub fits : v ≤ (2 ^ 64 - 1 - d) / base → v * base + d < 2 ^ 64
-    fits h = let q : v * base ≤ 2 ^ 64 - 1 - d = (le-div_iff_mul-le {k = base} {x = v} {y = 2 ^ 64 - 1 - d} low).0 h in omega arith
-
-    over : (2 ^ 64 - 1 - d) / base < v → 2 ^ 64 ≤ v * base + d
-    over h = let q : 2 ^ 64 - 1 - d < v * base = (div-lt_iff_lt-mul {k = base} {x = 2 ^ 64 - 1 - d} {y = v} low).0 h in omega arith
-
-    pub pushes : (n : Number) → n ≡ Is v → v ≤ (2 ^ 64 - 1 - d) / base → Is (v * base + d) ≡ with_digit base n b
-    unfolding fitting
-    pushes n e h = rw (taken n small, e, lt-ltb (v * base + d) (2 ^ 64) (fits h))
-
-    pub overflows : (n : Number) → n ≡ Is v → (2 ^ 64 - 1 - d) / base < v → TooLarge ≡ with_digit base n b
-    unfolding fitting
-    overflows n e h = rw (taken n small, e, le-ltb (v * base + d) (2 ^ 64) (over h))
+  pub decimal : pointwise nat_eq (take 2 s) (48 ∷ 120 ∷ []) ≡ false → r ≡ digits_in 10 s → r ≡ number_in s
+  unfolding number_in
+  decimal p e = rw (sym (prefixed_is s) ∙ p) e
 
 -- ---- a number's digits
 

@@ -1,12 +1,11 @@
 -- What is put into a buffer stands there, and a number's digits read back as the number.
-use Rattle.std.specs.Prelude.{◌≡◌, ℕ, zero, suc, ◌+◌, ◌-◌, ◌/◌, ◌%◌, ◌^◌, ◌<◌, ◌≤◌, Bool, true, false, ◌&&◌, List, [], ◌∷◌, ◌++◌, length, take, drop, ◌==◌, ◌≢◌, nat_le, nat_lt, refl}
+use Rattle.std.specs.Prelude.{◌≡◌, ℕ, zero, suc, ◌+◌, ◌-◌, ◌/◌, ◌%◌, ◌^◌, ◌<◌, ◌≤◌, Bool, true, false, ◌&&◌, List, [], ◌∷◌, ◌++◌, length, take, drop, ◌==◌, ◌≢◌, nat_le, nat_lt, Ok, refl}
 use Rattle.std.proofs.Common.{sym, ap, ◌∙◌, append_assoc, append-nil, arith, add-one, length-append, length-drop, drop_of_length-le, take_all, drop-drop, take_at, drop_at, length-take-le}
 use Rattle.std.proofs.lemmas.Bool.{false≢true}
 use Rattle.std.proofs.Math.Nat.{pow-le-pow_right}
 use Rattle.std.proofs.Math.Seq.{take-length}
 use borrow.Author.Tests.{lt-ltb, le-leb, leb-true, leb-false, eqb-true, ne_eqb}
 use Rattle.io.specs.Digits.{hex_digit_ascii, last_digits, IsDigitCount}
-use Rattle.text.specs.declared.number.Number.TheVariants.{Is}
 use Rattle.text.specs.Numeral.{digit_of, digitsb, fitting, digits_in, number_in, prefixed}
 use Rattle.text.specs.NumeralLaws.{digits_digits, digits_value}
 use Rattle.text.specs.Write.{Put, Spelled}
@@ -52,7 +51,7 @@ module _ (old : List ℕ) (at : ℕ) (text : List ℕ) (fits : at + length text 
       ∙ take_at text (drop r old) (r - at) (omega (arith, put.next))
 
   -- a text that reads as a number spells it
-  pub spells : (most n : ℕ) → length text ≤ most → number_in text ≡ Is n → Spelled most old at n new r
+  pub spells : (most n : ℕ) → length text ≤ most → number_in text ≡ Ok n → Spelled most old at n new r
   spells most n short reads = record {
     starts = omega (arith, put.next);
     ends = omega (arith, put.next);
@@ -96,7 +95,7 @@ at_most b n k most low some small few = go (nat_le k most) refl
         absurd (omega arith)
 
 module _ (base : ℕ) (low : 1 < base) (high : base ≤ 16) where
-  pub digits_read : (k n : ℕ) → n < 2 ^ 64 → IsDigitCount base 1 n k → digits_in base (last_digits base k n) ≡ Is n
+  pub digits_read : (k n : ℕ) → n < 2 ^ 64 → IsDigitCount base 1 n k → digits_in base (last_digits base k n) ≡ Ok n
   unfolding digits_in fitting
   digits_read k n small few =
       rw (ne_eqb (length (last_digits base k n)) 0 (λ e. absurd (omega (arith, length_digits base k n, few.0))), digits_digits base low high k n, digits_value base low high k n few.1, lt-ltb n (2 ^ 64) small)
@@ -121,11 +120,11 @@ no_prefix (a ∷ b ∷ s) e = go (b == 120) refl
     go true q = absurd (mid_false (nat_lt (digit_of a) 10) (digitsb 10 s) (rw (eqb-true b 120 q) at e))
     go false q = rw q (last_false (nat_le 2 (length (a ∷ b ∷ s))) (a == 48))
 
-pub decimal_reads : (k n : ℕ) → n < 2 ^ 64 → IsDigitCount 10 1 n k → number_in (last_digits 10 k n) ≡ Is n
+pub decimal_reads : (k n : ℕ) → n < 2 ^ 64 → IsDigitCount 10 1 n k → number_in (last_digits 10 k n) ≡ Ok n
 unfolding number_in
 decimal_reads k n small few = rw (no_prefix (last_digits 10 k n) (digits_digits 10 (omega arith) (omega arith) k n)) (digits_read 10 (omega arith) (omega arith) k n small few)
 
-pub hex_reads : (k n : ℕ) → n < 2 ^ 64 → IsDigitCount 16 1 n k → number_in (48 ∷ 120 ∷ last_digits 16 k n) ≡ Is n
+pub hex_reads : (k n : ℕ) → n < 2 ^ 64 → IsDigitCount 16 1 n k → number_in (48 ∷ 120 ∷ last_digits 16 k n) ≡ Ok n
 unfolding number_in
 hex_reads k n small few = rw (le-leb 2 (length (48 ∷ 120 ∷ last_digits 16 k n)) (omega arith)) (digits_read 16 (omega arith) (omega arith) k n small few)
 

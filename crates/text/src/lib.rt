@@ -9,6 +9,6 @@ mod write;
 
 pub use form::{Row, put_row};
 pub use lines::{Held, gather, line_end, without_return};
-pub use number::{Number, digit, read_number};
+pub use number::{NumberError, are_digits, digit, read_number};
 pub use words::{Word, next_word, part_of, word_end};
 pub use write::{put, put_decimal, put_hex, put_hex_word};

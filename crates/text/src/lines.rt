@@ -1,10 +1,11 @@
 // Lines out of chunks of input: where a line ends, and its parts gathered in a buffer.
-ghost use Rattle.std.specs.Prelude.{◌≡◌, ◌+◌, ◌≤◌, length, drop};
+ghost use Rattle.std.specs.Prelude.{◌≡◌, ◌+◌, ◌≤◌, length, take, drop};
 ghost use Rattle.text.specs.Lines.{line_length, without_return, Gathered};
 
 use crate::write::put;
 
 // How much of a line the buffer holds, and whether the line is longer than the buffer.
+// Borrowing the buffer is no plainer, because the session that holds this is passed by value beside its buffers.
 #[derive(Clone, Copy)]
 pub struct Held {
     pub len: usize,
@@ -29,42 +30,42 @@ pub fn line_end(chunk: &[u8], at: usize) -> usize
     ensures value { result ≡ at + line_length (drop at chunk.now) }
     ensures lower_bound { (at ≤ result) × (result ≤ length chunk.now) }
 {
-    let mut i = at;
-    while i < chunk.len() {
-        if chunk[i] == b'\n' {
-            return i;
-        }
-        i += 1;
-    }
-    i
+    at + line_length(&chunk[at..])
+}
+
+// How many bytes stand before the first newline.
+#[tactic(auto, unfolding(crate::specs::Lines::line_length))]
+fn line_length(text: &[u8]) -> usize
+    ensures value { result ≡ line_length text.now }
+    ensures upper_bound { result ≤ length text.now }
+{
+    text.iter().take_while(|&&byte| byte != b'\n').count()
 }
 
 // Puts one more part of the line behind what is held.
+#[tactic(auto, using(crate::specs::LinesLaws::stays_long, crate::specs::LinesLaws::gets_long, crate::specs::LinesLaws::gathers))]
 pub fn gather(line: &mut [u8], held: Held, part: &[u8]) -> Held
     requires { held.len ≤ length line.old }
     ensures { Gathered line.old held part.now line.new result }
 {
-    let len = held.len;
     if held.long {
         return held;
     }
-    if line.len() - len < part.len() {
-        return Held { len, long: true };
+    if line.len() - held.len < part.len() {
+        return Held { long: true, ..held };
     }
     Held {
-        len: put(line, len, part),
+        len: put(line, held.len, part),
         long: false,
     }
 }
 
-// The line's length without a carriage return at its end.
-pub fn without_return(line: &[u8]) -> usize
-    ensures value { result ≡ without_return line.now }
-    ensures upper_bound { result ≤ length line.now }
+// The line without a carriage return at its end.
+#[tactic(auto, using(crate::specs::LinesLaws::return_left, crate::specs::LinesLaws::no_return, crate::specs::LinesLaws::nothing_taken))]
+pub fn without_return(line: &[u8]) -> &[u8]
+    ensures value { result.now ≡ take (without_return line.now) line.now }
+    ensures length { length result.now ≡ without_return line.now }
+    ensures upper_bound { length result.now ≤ length line.now }
 {
-    let n = line.len();
-    if n == 0 {
-        return n;
-    }
-    if line[n - 1] == b'\r' { n - 1 } else { n }
+    line.strip_suffix(b"\r").unwrap_or(line)
 }

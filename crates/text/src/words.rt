@@ -1,8 +1,9 @@
 // Words of a line: runs of bytes between blanks.
-ghost use Rattle.std.specs.Prelude.{◌≡◌, ◌+◌, ◌-◌, ◌≤◌, ◌||◌, length, drop, ◌==◌};
-ghost use Rattle.text.specs.LineWords.{blanks, letters, word_at, Lies};
+ghost use Rattle.std.specs.Prelude.{◌≡◌, ◌+◌, ◌-◌, ◌≤◌, length, drop};
+ghost use Rattle.text.specs.LineWords.{blank, blanks, letters, word_at, Lies};
 
 // Where a word of a line starts and ends. It is empty if the line had no further word, and lies in the line if it is not.
+// A slice is no plainer, because the specs of a fault and of a file name a word by its places.
 #[derive(Clone, Copy)]
 pub struct Word {
     pub from: usize,
@@ -10,11 +11,12 @@ pub struct Word {
 }
 
 // The first word from `at` on.
+#[tactic(auto, unfolding(crate::specs::LineWords::word_at))]
 pub fn next_word(line: &[u8], at: usize) -> Word
     ensures value { result ≡ word_at line.now at }
     ensures lies { Lies (length line.now) at result }
 {
-    let from = blanks_end(line, at);
+    let from = at + blanks(line, at);
     Word {
         from,
         to: word_end(line, from),
@@ -23,30 +25,7 @@ pub fn next_word(line: &[u8], at: usize) -> Word
 
 // The bytes of a word; none if it does not lie in the line.
 pub fn part_of(line: &[u8], word: Word) -> &[u8] {
-    let from = word.from;
-    let to = word.to;
-    if to < from {
-        return &line[..0];
-    }
-    if line.len() < to {
-        return &line[..0];
-    }
-    &line[from..to]
-}
-
-// The first place from `at` on with no blank.
-fn blanks_end(line: &[u8], at: usize) -> usize
-    ensures value { result ≡ at + blanks (drop at line.now) }
-    ensures lower_bound { (at ≤ result) × (result ≤ at + (length line.now - at)) }
-{
-    let mut i = at;
-    while i < line.len() {
-        if !is_blank(line[i]) {
-            return i;
-        }
-        i += 1;
-    }
-    i
+    line.get(word.from..word.to).unwrap_or(&[])
 }
 
 // The first place from `at` on with a blank.
@@ -54,18 +33,35 @@ pub fn word_end(line: &[u8], at: usize) -> usize
     ensures value { result ≡ at + letters (drop at line.now) }
     ensures lower_bound { (at ≤ result) × (result ≤ at + (length line.now - at)) }
 {
-    let mut i = at;
-    while i < line.len() {
-        if is_blank(line[i]) {
-            return i;
-        }
-        i += 1;
-    }
-    i
+    at + letters(line, at)
+}
+
+// How many blanks stand from `at` on.
+#[tactic(auto, unfolding(crate::specs::LineWords::blanks))]
+fn blanks(line: &[u8], at: usize) -> usize
+    ensures value { result ≡ blanks (drop at line.now) }
+    ensures upper_bound { result ≤ length line.now - at }
+{
+    line.iter()
+        .skip(at)
+        .take_while(|&&byte| is_blank(byte))
+        .count()
+}
+
+// How many bytes that are no blanks stand from `at` on.
+#[tactic(auto, unfolding(crate::specs::LineWords::letters))]
+fn letters(line: &[u8], at: usize) -> usize
+    ensures value { result ≡ letters (drop at line.now) }
+    ensures upper_bound { result ≤ length line.now - at }
+{
+    line.iter()
+        .skip(at)
+        .take_while(|&&byte| !is_blank(byte))
+        .count()
 }
 
 fn is_blank(byte: u8) -> bool
-    ensures { result ≡ (byte == 32 || byte == 9) }
+    ensures { result ≡ blank byte }
 {
     byte == b' ' || byte == b'\t'
 }

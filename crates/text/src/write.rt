@@ -3,6 +3,7 @@ ghost use Rattle.std.specs.Prelude.{◌+◌, ◌≤◌, length};
 ghost use Rattle.text.specs.Write.{Put, Spelled};
 
 // Puts bytes at a place, and answers the place after them.
+// A writer over the buffer is no plainer, because the contracts Put and Spelled name the places.
 pub fn put(out: &mut [u8], at: usize, text: &[u8]) -> usize
     requires { at + length text.now ≤ length out.old }
     ensures { Put out.old at text.now out.new result }
@@ -13,6 +14,7 @@ pub fn put(out: &mut [u8], at: usize, text: &[u8]) -> usize
 }
 
 // Puts a number in decimal.
+#[tactic(auto, using(crate::specs::WriteLaws::at_most))]
 pub fn put_decimal(out: &mut [u8], at: usize, n: u64) -> usize
     requires { at + 20 ≤ length out.old }
     ensures { Spelled 20 out.old at n out.new result }
@@ -23,6 +25,7 @@ pub fn put_decimal(out: &mut [u8], at: usize, n: u64) -> usize
 }
 
 // Puts a number in hexadecimal: `0x` and the digits in lower case, with no zero in front.
+#[tactic(auto, using(crate::specs::WriteLaws::at_most))]
 pub fn put_hex(out: &mut [u8], at: usize, n: u64) -> usize
     requires { at + 18 ≤ length out.old }
     ensures { Spelled 18 out.old at n out.new result }

@@ -1,6 +1,5 @@
 -- What is shown of a wrong line.
-use Rattle.std.specs.Prelude.{◌≡◌, ◌≢◌, Bool, true, false, cond, List, [], ◌∷◌, ◌++◌, ℕ, ◌/◌}
-use Rattle.model.specs.declared.Found.TheVariants.{At}
+use Rattle.std.specs.Prelude.{◌≡◌, ◌≢◌, Bool, true, false, cond, List, [], ◌∷◌, ◌++◌, ℕ, ◌/◌, Some}
 use Rattle.model.specs.Machine.{State}
 use Rattle.model.specs.Lookup.{row_found, region_for}
 use Rattle.model.specs.Fault.{handle_fault}
@@ -79,9 +78,9 @@ pub record Sight : Type 0 where
 -- .. so what crate `isolation` states of the call is false of the wrong line (`differs`). Where `rules` are none, the soundness test does not see the error, and isolation does
 pub record Seen (x : Case) (y : Sight) : Type 0 where
   pub call : words (x.right x.before) ≡ words (step x.call x.before)
-  pub was : view x.before y.of y.address ≡ At y.good
-  pub kept : view (y.follows (x.right x.before)) y.by y.address ≡ At y.good
-  pub changed : view (y.follows (x.wrong x.before)) y.by y.address ≡ At y.bad
+  pub was : view x.before y.of y.address ≡ Some y.good
+  pub kept : view (y.follows (x.right x.before)) y.by y.address ≡ Some y.good
+  pub changed : view (y.follows (x.wrong x.before)) y.by y.address ≡ Some y.bad
   pub differs : view (y.follows (x.wrong x.before)) y.by y.address ≢ view x.before y.of y.address
   pub loads_good : get y.by y.address (y.follows (x.right x.before)) ≡ y.good
   pub loads_bad : get y.by y.address (y.follows (x.wrong x.before)) ≡ y.bad

@@ -1,9 +1,7 @@
 -- Means's records as tests that compute the state before once, and what the tests tell.
-use Rattle.std.specs.Prelude.{◌≡◌, refl, ◌≢◌, Bool, true, false, ◌&&◌, not, List, [], ◌∷◌, ℕ, eqb}
+use Rattle.std.specs.Prelude.{◌≡◌, refl, ◌≢◌, Bool, true, false, ◌&&◌, not, List, [], ◌∷◌, ℕ, eqb, Option, Some, None}
 use Rattle.std.proofs.Common.{ap, sym, ◌∙◌, eqb-true, eq-eqb}
 use Rattle.std.proofs.lemmas.Bool.{false≢true}
-use Rattle.model.specs.declared.Found.{Found}
-use Rattle.model.specs.declared.Found.TheVariants.{At, Nothing}
 use Rattle.model.specs.Machine.{State}
 use Rattle.model.specs.Lookup.{row_found}
 use Rattle.laws.specs.BoolLaws.{both_true}
@@ -28,8 +26,8 @@ seenb x y =
     let w = x.wrong s in
     let t = y.follows r in
     let u = y.follows w in
-    same_list (words r) (words (step x.call s)) && (same_found (view s y.of y.address) (At y.good)
-    && (same_found (view t y.by y.address) (At y.good) && (same_found (view u y.by y.address) (At y.bad)
+    same_list (words r) (words (step x.call s)) && (same_found (view s y.of y.address) (Some y.good)
+    && (same_found (view t y.by y.address) (Some y.good) && (same_found (view u y.by y.address) (Some y.bad)
     && (eqb (get y.by y.address t) y.good && (eqb (get y.by y.address u) y.bad && (same_list (broken w) x.rules && not (eqb y.bad y.good)))))))
 
 -- a machine that breaks a rule is refused
@@ -55,9 +53,9 @@ refused_told x e =
     let which = list_told (broken (x.wrong x.before)) x.rules rules.0 in
     record { call = list_told _ _ call.0; sound = sound.0; refused = broken_refused (x.wrong x.before) (ap some which ∙ rules.1); which = which }
 
-pub found_told : (x : Found) (n : ℕ) → same_found x (At n) ≡ true → x ≡ At n
-found_told Nothing n e = absurd (false≢true e)
-found_told (At i) n e = ap At (eqb-true i n e)
+pub found_told : (x : Option ℕ) (n : ℕ) → same_found x (Some n) ≡ true → x ≡ Some n
+found_told None n e = absurd (false≢true e)
+found_told (Some i) n e = ap Some (eqb-true i n e)
 
 pub other : (a b : ℕ) → not (eqb a b) ≡ true → a ≢ b
 other a b e same = false≢true (sym (ap not (eq-eqb a b same)) ∙ e)
@@ -66,9 +64,9 @@ pub seen_told : (x : Case) (y : Sight) → seenb x y ≡ true → Seen x y
 unfolding seenb
 seen_told x y e =
     let call = both_true (same_list (words (x.right x.before)) (words (step x.call x.before))) _ e in
-    let was = both_true (same_found (view x.before y.of y.address) (At y.good)) _ call.1 in
-    let kept = both_true (same_found (view (y.follows (x.right x.before)) y.by y.address) (At y.good)) _ was.1 in
-    let changed = both_true (same_found (view (y.follows (x.wrong x.before)) y.by y.address) (At y.bad)) _ kept.1 in
+    let was = both_true (same_found (view x.before y.of y.address) (Some y.good)) _ call.1 in
+    let kept = both_true (same_found (view (y.follows (x.right x.before)) y.by y.address) (Some y.good)) _ was.1 in
+    let changed = both_true (same_found (view (y.follows (x.wrong x.before)) y.by y.address) (Some y.bad)) _ kept.1 in
     let good = both_true (eqb (get y.by y.address (y.follows (x.right x.before))) y.good) _ changed.1 in
     let bad = both_true (eqb (get y.by y.address (y.follows (x.wrong x.before))) y.bad) _ good.1 in
     let rules = both_true (same_list (broken (x.wrong x.before)) x.rules) _ bad.1 in

@@ -1,7 +1,6 @@
 -- (15) A CopyEager region cloned as a CopyOnWrite one, by sharing: no rule is broken and no byte is wrong, and isolation's EagerCloneOwns refuses it.
-use Rattle.std.specs.Prelude.{◌≡◌, refl, Bool, true, ◌&&◌, [], ◌∷◌, ℕ, get_or, eqb}
+use Rattle.std.specs.Prelude.{◌≡◌, refl, Bool, true, ◌&&◌, [], ◌∷◌, ℕ, get_or, eqb, Some}
 use Rattle.std.proofs.Common.{ap, sym, ◌∙◌, eqb-true}
-use Rattle.model.specs.declared.Found.TheVariants.{At}
 use Rattle.model.specs.Machine.{State}
 use Rattle.model.specs.Lookup.{row_found}
 use Rattle.laws.specs.BoolLaws.{both_true}
@@ -35,15 +34,15 @@ shared s = share_by demote share_entry share_range s 0 0 1
 pub record Computed (s t u : State) : Type 0 where
   -- the wrong one breaks no rule, and the clone sees the right byte
   pub sound : broken u ≡ []
-  pub shows : view u 1 0x1000 ≡ At 31
+  pub shows : view u 1 0x1000 ≡ Some 31
   -- but the source's mapping has lost WRITABLE, which the right clone leaves: frame, flags
   pub was : mapping_of (page_at s.machine 0 0x1000) ≡ 0 ∷ 7 ∷ []
   pub keeps : mapping_of (page_at t.machine 0 0x1000) ≡ 0 ∷ 7 ∷ []
   pub loses : mapping_of (page_at u.machine 0 0x1000) ≡ 0 ∷ 5 ∷ []
   -- and the clone's page has the source's frame, with two holders, where the right clone's has one
-  pub home : home_slot s 0 0x1000 ≡ At 0
-  pub frame : frame_at s 0 0x1000 ≡ At 0
-  pub there : home_slot u 1 0x1000 ≡ At 0
+  pub home : home_slot s 0 0x1000 ≡ Some 0
+  pub frame : frame_at s 0 0x1000 ≡ Some 0
+  pub there : home_slot u 1 0x1000 ≡ Some 0
   pub one : holders_by (backing t.machine 1 0 1) ≡ 1
   pub two : holders_by (backing u.machine 1 0 1) ≡ 2
 
@@ -52,9 +51,9 @@ unfoldable pub computedb : State → Bool
 computedb s =
     let t = copied s in
     let u = shared s in
-    same_list (broken u) [] && (same_found (view u 1 0x1000) (At 31)
+    same_list (broken u) [] && (same_found (view u 1 0x1000) (Some 31)
     && (same_list (mapping_of (page_at s.machine 0 0x1000)) (0 ∷ 7 ∷ []) && (same_list (mapping_of (page_at t.machine 0 0x1000)) (0 ∷ 7 ∷ []) && (same_list (mapping_of (page_at u.machine 0 0x1000)) (0 ∷ 5 ∷ [])
-    && (same_found (home_slot s 0 0x1000) (At 0) && (same_found (frame_at s 0 0x1000) (At 0) && (same_found (home_slot u 1 0x1000) (At 0)
+    && (same_found (home_slot s 0 0x1000) (Some 0) && (same_found (frame_at s 0 0x1000) (Some 0) && (same_found (home_slot u 1 0x1000) (Some 0)
     && (eqb (holders_by (backing t.machine 1 0 1)) 1 && eqb (holders_by (backing u.machine 1 0 1)) 2))))))))
 
 computes : computedb before ≡ true
@@ -65,13 +64,13 @@ computed_told : (s : State) → computedb s ≡ true → Computed s (copied s) (
 unfolding computedb
 computed_told s e =
     let a = both_true (same_list (broken (shared s)) []) _ e in
-    let b = both_true (same_found (view (shared s) 1 0x1000) (At 31)) _ a.1 in
+    let b = both_true (same_found (view (shared s) 1 0x1000) (Some 31)) _ a.1 in
     let c = both_true (same_list (mapping_of (page_at s.machine 0 0x1000)) (0 ∷ 7 ∷ [])) _ b.1 in
     let d = both_true (same_list (mapping_of (page_at (copied s).machine 0 0x1000)) (0 ∷ 7 ∷ [])) _ c.1 in
     let f = both_true (same_list (mapping_of (page_at (shared s).machine 0 0x1000)) (0 ∷ 5 ∷ [])) _ d.1 in
-    let g = both_true (same_found (home_slot s 0 0x1000) (At 0)) _ f.1 in
-    let h = both_true (same_found (frame_at s 0 0x1000) (At 0)) _ g.1 in
-    let i = both_true (same_found (home_slot (shared s) 1 0x1000) (At 0)) _ h.1 in
+    let g = both_true (same_found (home_slot s 0 0x1000) (Some 0)) _ f.1 in
+    let h = both_true (same_found (frame_at s 0 0x1000) (Some 0)) _ g.1 in
+    let i = both_true (same_found (home_slot (shared s) 1 0x1000) (Some 0)) _ h.1 in
     let j = both_true (eqb (holders_by (backing (copied s).machine 1 0 1)) 1) _ i.1 in
     record {
       sound = list_told _ _ a.0;

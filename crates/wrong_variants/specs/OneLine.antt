@@ -1,14 +1,10 @@
 -- Definitions of crate `model` with one line taken out and given as an argument, so that a wrong line can be put in. With the right line each is
 -- model's own definition.
-use Rattle.std.specs.Prelude.{◌≡◌, refl, Bool, ◌&&◌, not, cond, List, ℕ, ◌-◌, ◌/◌, eqb}
+use Rattle.std.specs.Prelude.{◌≡◌, refl, Bool, ◌&&◌, not, cond, List, ℕ, ◌-◌, ◌/◌, eqb, Option, Some, None}
 use Rattle.address.specs.Flags.{read_only}
 use Rattle.answers.specs.declared.Refusal.TheVariants.{NotAccessible}
 use Rattle.model.specs.declared.Region.{Region}
 use Rattle.model.specs.declared.Mapping.{Mapping}
-use Rattle.model.specs.declared.Found.{Found}
-use Rattle.model.specs.declared.Found.TheVariants.{At, Nothing}
-use Rattle.model.specs.declared.Translated.{Translated}
-use Rattle.model.specs.declared.Translated.TheVariants.{Mapped, NotMapped}
 use Rattle.model.specs.declared.Backed.{Backed}
 use Rattle.model.specs.declared.Way.{Way}
 use Rattle.model.specs.declared.Way.TheVariants.{Refuse, Already}
@@ -73,9 +69,9 @@ unfolding own_by own_frame
 own_right s p slot page content = refl
 
 -- the way of a write to a page that is mapped read-only
-abbrev translated_by : (Region → Backed → Way) → Region → Translated → Backed → Bool → Way
-translated_by way r (Mapped x) b w = cond (well_mapped (Mapped x) w) Already (way r b)
-translated_by way r NotMapped b w = unmapped_way r b w
+abbrev translated_by : (Region → Backed → Way) → Region → Option Mapping → Backed → Bool → Way
+translated_by way r (Some x) b w = cond (well_mapped (Some x) w) Already (way r b)
+translated_by way r None b w = unmapped_way r b w
 
 unfoldable pub way_by : (Region → Backed → Way) → Machine → ℕ → ℕ → ℕ → Bool → Way
 way_by way m p s page w =
@@ -83,16 +79,16 @@ way_by way m p s page w =
     let t = translate (mapped_of m p) page in
     cond (is_shared r) (shared_way t (backing m p s page)) (cond (is_user r.flags.0) (translated_by way r t (backing m p s page) w) (Refuse NotAccessible))
 
-translated_right : (r : Region) (t : Translated) (b : Backed) (w : Bool) → translated_by mapped_way r t b w ≡ translated_way r t b w
-translated_right r (Mapped x) b w = refl
-translated_right r NotMapped b w = refl
+translated_right : (r : Region) (t : Option Mapping) (b : Backed) (w : Bool) → translated_by mapped_way r t b w ≡ translated_way r t b w
+translated_right r (Some x) b w = refl
+translated_right r None b w = refl
 
 pub way_right : (m : Machine) (p s page : ℕ) (w : Bool) → way_by mapped_way m p s page w ≡ fault_way m p s page w
 unfolding way_by fault_way private_way
 way_right m p s page w = rw (translated_right (region_at m p s) (translate (mapped_of m p) page) (backing m p s page) w)
 
 -- the test of an address by which the region of a fault is found
-unfoldable pub region_by : (Region → ℕ → Bool) → Machine → ℕ → ℕ → Found
+unfoldable pub region_by : (Region → ℕ → Bool) → Machine → ℕ → ℕ → Option ℕ
 region_by test m p a = first_slot (λ s. test (region_at m p s) a) (order_of m p)
 
 pub region_right : (m : Machine) (p a : ℕ) → region_by contains m p a ≡ region_for m p a
@@ -100,9 +96,9 @@ unfolding region_by region_for
 region_right m p a = refl
 
 -- a fault of the region that is found so; where none is found nothing is done
-abbrev fault_in : Found → State → ℕ → ℕ → Bool → State
-fault_in (At slot) s p a w = (handle_fault s p slot (a / 4096) w).state
-fault_in Nothing s p a w = s
+abbrev fault_in : Option ℕ → State → ℕ → ℕ → Bool → State
+fault_in (Some slot) s p a w = (handle_fault s p slot (a / 4096) w).state
+fault_in None s p a w = s
 
 unfoldable pub fault_by : (Region → ℕ → Bool) → State → ℕ → ℕ → Bool → State
 fault_by test s p a w = fault_in (region_by test s.machine p a) s p a w

@@ -1,9 +1,7 @@
 -- The customer's story: intake writes a cut-off date, the worker is cloned, intake writes a new date, the worker still reads the old one; and with a wrong clone.
-use Rattle.std.specs.Prelude.{◌≡◌, refl, Bool, true, false, ◌&&◌, List, [], ◌∷◌, ◌++◌, ℕ}
+use Rattle.std.specs.Prelude.{◌≡◌, refl, Bool, true, false, ◌&&◌, List, [], ◌∷◌, ◌++◌, ℕ, Some, Ok}
 use Rattle.std.proofs.Common.{ap, sym, ◌∙◌}
 use Rattle.answers.specs.declared.Refusal.TheVariants.{BadTable, Denied}
-use Rattle.model.specs.declared.Found.TheVariants.{At}
-use Rattle.model.specs.declared.Done.TheVariants.{Yes}
 use Rattle.model.specs.Machine.{State}
 use Rattle.model.specs.Lookup.{row_found}
 use Rattle.laws.specs.BoolLaws.{both_true}
@@ -51,7 +49,7 @@ pub story_holds : Holds story.events story.from
 story_holds = holds_told _ _ story_computes
 
 -- what demand 3 promises is promised of this machine: start accepts it, and whatever calls follow, those of the story or others, keep the guarantee
-starts : (calls.start (unstarted 2 [] []) []).answer ≡ Yes
+starts : (calls.start (unstarted 2 [] []) []).answer ≡ Ok tt
 unfolding everything unstarted
 starts = refl
 
@@ -82,13 +80,13 @@ pub record Told (right wrong : State) : Type 0 where
   pub caught : (call redate wrong).answer ≡ says BadTable []
   -- though the page is private on both sides
   pub private : (kind_at wrong 0 0x1000 ∷ kind_at wrong 1 0x1000 ∷ []) ≡ 1 ∷ 1 ∷ []
-  pub sees : view wrong 1 0x1000 ≡ At 31
+  pub sees : view wrong 1 0x1000 ≡ Some 31
 
 unfoldable pub toldb : State → State → Bool
 toldb right wrong =
     same_reply (call redate right).answer (says Denied []) && (granted (page_at wrong.machine 0 0x1000) true && (same_list (worker wrong) (31 ∷ 12 ∷ 20 ∷ 26 ∷ [])
     && (same_list (worker (redates 15 1 20 27 wrong)) (15 ∷ 1 ∷ 20 ∷ 27 ∷ []) && (same_reply (call redate wrong).answer (says BadTable [])
-    && (same_list (kind_at wrong 0 0x1000 ∷ kind_at wrong 1 0x1000 ∷ []) (1 ∷ 1 ∷ []) && same_found (view wrong 1 0x1000) (At 31))))))
+    && (same_list (kind_at wrong 0 0x1000 ∷ kind_at wrong 1 0x1000 ∷ []) (1 ∷ 1 ∷ []) && same_found (view wrong 1 0x1000) (Some 31))))))
 
 told_by : (right wrong : State) → toldb right wrong ≡ true → Told right wrong
 unfolding toldb

@@ -1,6 +1,5 @@
 -- `cut_slots` asks one place after the other. The invariant: those cut of the first i are put.
 use mathlib.Core.Path.{◌≡◌}
-use Prim.Native.Nat.{◌-◌}
 use lib.ListN.{length}
 use Rattle.model.specs.Layout.{machine}
 use Rattle.model.specs.Machine.{order_of}
@@ -11,6 +10,3 @@ use Rattle.carve_taken.proofs.cut_slots.Given as goal
 
 abbrev pub invariant-loop-i : goal.invariant-loop-i
 invariant-loop-i l = Picked (keep (partial (machine l.words) l.process l.start l.end)) (order_of (machine l.words) l.process) l.n l.initial.out 0 l.out l.found l.i × (length l.out ≡ length l.initial.out)
-
-abbrev pub decreases-loop-i : goal.decreases-loop-i
-decreases-loop-i l = l.n - l.i

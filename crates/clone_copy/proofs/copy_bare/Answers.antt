@@ -1,16 +1,11 @@
 -- `copy_bare`: a page with an entry is passed, another copied.
-use mathlib.Core.Path.{sym, ◌∙◌}
 use Rattle.model.specs.Layout.{machine}
 use Rattle.clone_copy.specs.CopyPageLaws.{shadowed, bare}
-use borrow.Author.Rules.{rules}
 use Rattle.clone_copy.proofs.copy_bare.Goals as goal
 
 pub returns-then-is_shadowed : goal.returns-then-is_shadowed
 returns-then-is_shadowed c =
     let from = c.args in let the = shadowed (machine from.words.now) _ from.src from.row from.page.0 from.from.0 _ c.is_shadowed.ensures c.if-is_shadowed.true in record { words_after = the.0; frames_after = the.1 }
-
-pub copy_entry-requires : goal.copy_entry-requires
-copy_entry-requires c = let can = c.requires.can_copy (sym c.is_shadowed.ensures ∙ c.if-is_shadowed.false) in record { words_len = search rules; row_bound = search rules; can_copy = search rules }
 
 pub returns : goal.returns
 returns c =

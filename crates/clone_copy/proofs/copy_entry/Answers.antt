@@ -13,13 +13,13 @@ returns-in_default c =
 
 pub copy-requires : goal.copy-requires
 copy-requires c =
-    let from = c.args in record { from_in_bounds = from_inside (machine from.words.now) _ from.from.0 c.requires.can_copy; to_in_bounds = new_inside (machine from.words.now) _ from.from.0 c.requires.can_copy _ (sym c.take_frame.ensures.result_value ∙ ap found_frame c.in-At.is) }
+    let from = c.args in record { from_in_bounds = from_inside (machine from.words.now) _ from.from.0 c.requires.can_copy; to_in_bounds = new_inside (machine from.words.now) _ from.from.0 c.requires.can_copy _ (sym c.take_frame.ensures.result_value ∙ ap found_frame c.in-Some.is) }
 
 pub add_entry-requires : goal.add_entry-requires
 add_entry-requires c =
     let from = c.args in
-    let found = claim_found (machine from.words.now) _ from.from.0 c.requires.can_copy _ (sym c.take_frame.ensures.result_value ∙ ap found_frame c.in-At.is) _ c.take_frame.ensures.words_after in record { words_len = search rules; row_bound = search rules; words_value = search rules }
+    let found = claim_found (machine from.words.now) _ from.from.0 c.requires.can_copy _ (sym c.take_frame.ensures.result_value ∙ ap found_frame c.in-Some.is) _ c.take_frame.ensures.words_after in record { words_len = search rules; row_bound = search rules; words_value = search rules }
 
 pub returns : goal.returns
 returns c =
-    let from = c.args in record { words_after = copies_entry (machine from.words.now) _ from.from.0 c.requires.can_copy _ (sym c.take_frame.ensures.result_value ∙ ap found_frame c.in-At.is) _ c.take_frame.ensures.words_after from.row from.page.0 _ c.add_entry.ensures; frames_after = copies_frame (machine from.words.now) _ from.from.0 c.requires.can_copy _ (sym c.take_frame.ensures.result_value ∙ ap found_frame c.in-At.is) _ _ c.copy.ensures }
+    let from = c.args in record { words_after = copies_entry (machine from.words.now) _ from.from.0 c.requires.can_copy _ (sym c.take_frame.ensures.result_value ∙ ap found_frame c.in-Some.is) _ c.take_frame.ensures.words_after from.row from.page.0 _ c.add_entry.ensures; frames_after = copies_frame (machine from.words.now) _ from.from.0 c.requires.can_copy _ (sym c.take_frame.ensures.result_value ∙ ap found_frame c.in-Some.is) _ _ c.copy.ensures }

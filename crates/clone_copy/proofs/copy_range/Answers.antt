@@ -1,6 +1,5 @@
 -- The answers for `copy_range`.
 use mathlib.Core.Path.{◌∙◌}
-use native.Mathlib.Omega.{arith}
 use Rattle.clone_copy.specs.CopyRangeLaws.{range_first, range_can, range_more, range_all}
 use Rattle.clone_copy.proofs.copy_range.Goals as goal
 
@@ -9,23 +8,10 @@ loop-i-init c =
     let from = c.args in
     range_first from.words.now from.frames.now from.src from.row from.region from.len c.requires.range_copy
 
-pub overflow_add-from : goal.overflow_add-from
-overflow_add-from c =
-    let can = c.requires.range_copy in
-    let inside = can.inside (omega arith) in
-    let few = can.few in
-    omega arith
-
-pub nth_page-requires : goal.nth_page-requires
-nth_page-requires c = let long = c.requires.range_copy.long in omega arith
-
 pub copy_bare-requires : goal.copy_bare-requires
 copy_bare-requires c =
     let from = c.args in
     let inv = c.loop-i.invariant in record { words_len = inv.words ∙ c.requires.words_len; src_bound = c.requires.src_bound; row_bound = c.requires.row_bound; can_copy = range_can from.words.now from.frames.now from.src from.row from.region from.len c.requires.range_copy _ _ _ inv c.loop-i-test.true _ c.nth_page.ensures }
-
-pub overflow_add-i : goal.overflow_add-i
-overflow_add-i c = let long = c.requires.range_copy.long in omega arith
 
 pub loop-i-preserved : goal.loop-i-preserved
 loop-i-preserved c =

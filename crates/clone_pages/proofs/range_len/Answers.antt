@@ -11,4 +11,4 @@ returns-then-region-ne1 c =
 pub returns : goal.returns
 returns c =
     let from = c.args in
-    range_some (machine from.words.now) from.region c.if-region-ne1.false _ c.backing_from-b.ensures
+    range_some (machine from.words.now) from.region c.if-region-ne1.false _ c.backing_from.ensures

@@ -1,7 +1,7 @@
 -- `cloned_region`: the refusals that name processes and the region, in their order.
 use mathlib.Core.Path.{sym, ◌∙◌}
 use Rattle.lookup.specs.FirstOfLaws.{open_small}
-use Rattle.clone_region.specs.CloneCallLaws.{source_closed, target_closed, clone_address, clone_none, clone_some}
+use Rattle.clone_region.specs.CloneCallLaws.{source_closed, target_closed, clone_address, clone_found}
 use borrow.Author.Rules.{rules}
 use Rattle.clone_region.proofs.cloned_region.Goals as goal
 
@@ -25,12 +25,7 @@ region_for-requires c =
     let from = c.args in
     let small = open_small from.words.now from.process (sym c.is_open.ensures ∙ c.if-not-is_open.false) in record { words_len = search rules; process_bound = search rules }
 
-pub returns-in_default : goal.returns-in_default
-returns-in_default c =
-    let from = c.args in
-    clone_none from.words.now from.process from.addr.0 from.target (sym c.is_open.ensures ∙ c.if-not-is_open.false) (sym c.is_open-2.ensures ∙ c.if-not-is_open-2.false) (sym c.is_user.ensures ∙ c.if-not-is_user.false) (sym c.in_default.is ∙ c.region_for.ensures)
-
 pub returns : goal.returns
 returns c =
     let from = c.args in
-    clone_some from.words.now from.process from.addr.0 from.target (sym c.is_open.ensures ∙ c.if-not-is_open.false) (sym c.is_open-2.ensures ∙ c.if-not-is_open-2.false) (sym c.is_user.ensures ∙ c.if-not-is_user.false) _ (sym c.in-At.is ∙ c.region_for.ensures)
+    c.ok_or.ensures.value ∙ clone_found from.words.now from.process from.addr.0 from.target (sym c.is_open.ensures ∙ c.if-not-is_open.false) (sym c.is_open-2.ensures ∙ c.if-not-is_open-2.false) (sym c.is_user.ensures ∙ c.if-not-is_user.false) _ c.region_for.ensures

@@ -11,4 +11,4 @@ returns-then-region-ne-COPY_EAGER c =
 pub returns : goal.returns
 returns c =
     let from = c.args in
-    frames_asked (machine from.words.now) from.region from.needed c.if-region-ne-COPY_EAGER.false _ c.pool-row.ensures
+    frames_asked (machine from.words.now) from.region from.needed c.if-region-ne-COPY_EAGER.false _ c.pool.ensures

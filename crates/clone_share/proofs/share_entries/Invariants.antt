@@ -8,6 +8,3 @@ use Rattle.clone_share.proofs.share_entries.Given as goal
 
 abbrev pub invariant-loop-i : goal.invariant-loop-i
 invariant-loop-i l = (l.i ≤ l.n) × ((length l.words ≡ length l.initial.words) × Going (machine l.initial.words) (machine l.words) l.src l.row l.page.0 (l.n - l.i))
-
-abbrev pub decreases-loop-i : goal.decreases-loop-i
-decreases-loop-i l = l.n - l.i

@@ -16,18 +16,6 @@ add_region-requires c =
     let low = slot_low from.words.now from.process from.slot from.target from.free c.requires.process_bound c.requires.slot_bound c.requires.target_bound c.requires.cloneable in
     let left = place_left from.words.now from.process from.slot from.target from.free c.requires.process_bound c.requires.slot_bound c.requires.target_bound c.requires.cloneable _ c.region_in-region.ensures _ c.demote.ensures _ c.hold_range.ensures in record { words_len = c.hold_range.auto.words ∙ c.demote.auto.words ∙ c.requires.words_len; process_bound = c.requires.target_bound; slot_bound = low; process_bound_2 = left }
 
-pub overflow_mul-process : goal.overflow_mul-process
-overflow_mul-process c = let a = c.requires.process_bound in omega arith
-
-pub overflow_add-process : goal.overflow_add-process
-overflow_add-process c =
-    let a = c.requires.process_bound in
-    let b = c.requires.slot_bound in
-    omega arith
-
-pub overflow_mul-target : goal.overflow_mul-target
-overflow_mul-target c = let a = c.requires.target_bound in omega arith
-
 pub overflow_add-target : goal.overflow_add-target
 overflow_add-target c =
     let from = c.args in

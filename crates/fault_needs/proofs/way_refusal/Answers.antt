@@ -14,8 +14,8 @@ returns-in-Restore c = way_restore _ _ _ _ _ c.in-Restore.is
 pub returns-then-no_room : goal.returns-then-no_room
 returns-then-no_room c = way_full _ _ _ _ _ _ _ c.in-Map.is _ c.no_room.ensures c.if-no_room.true
 
-pub returns-in-Map : goal.returns-in-Map
-returns-in-Map c = way_room _ _ _ _ _ _ _ c.in-Map.is _ c.no_room.ensures c.if-no_room.false
+pub returns-else-no_room : goal.returns-else-no_room
+returns-else-no_room c = way_room _ _ _ _ _ _ _ c.in-Map.is _ c.no_room.ensures c.if-no_room.false
 
 pub returns-in-Copy : goal.returns-in-Copy
 returns-in-Copy c = way_as _ _ _ _ _ _ _ (c.copy_refusal.ensures _) c.in-Copy.is

@@ -13,13 +13,13 @@ pub returns-in_default : goal.returns-in_default
 returns-in_default c = entered_none (machine c.args.words.now) c.args.row c.args.page.0 c.args.frame.0 _ c.entry_for.ensures c.in_default.is _ c.add_entry.ensures
 
 pub entry_at-old-requires : goal.entry_at-old-requires
-entry_at-old-requires c = let low = entry_row c.args.words.now c.args.row c.args.page.0 _ (sym c.in-At.is ∙ c.entry_for.ensures) in record { words_len = search rules; i_bound = search rules }
+entry_at-old-requires c = let low = entry_row c.args.words.now c.args.row c.args.page.0 _ (sym c.in-Some.is ∙ c.entry_for.ensures) in record { words_len = search rules; i_bound = search rules }
 
 pub release-requires : goal.release-requires
-release-requires c = let low = ready_at (machine c.args.words.now) c.args.row c.args.page.0 c.args.frame.0 _ c.entry_for.ensures _ c.in-At.is c.requires.entry_ready _ c.entry_at-old.ensures in record { words_len = search rules; frame_bound = search rules }
+release-requires c = let low = ready_at (machine c.args.words.now) c.args.row c.args.page.0 c.args.frame.0 _ c.entry_for.ensures _ c.in-Some.is c.requires.entry_ready _ c.entry_at-old.ensures in record { words_len = search rules; frame_bound = search rules }
 
 pub put_entry-requires : goal.put_entry-requires
-put_entry-requires c = let low = entry_row c.args.words.now c.args.row c.args.page.0 _ (sym c.in-At.is ∙ c.entry_for.ensures) in record { words_len = search rules; i_bound = search rules }
+put_entry-requires c = let low = entry_row c.args.words.now c.args.row c.args.page.0 _ (sym c.in-Some.is ∙ c.entry_for.ensures) in record { words_len = search rules; i_bound = search rules }
 
 pub returns : goal.returns
-returns c = entered_at (machine c.args.words.now) c.args.row c.args.page.0 c.args.frame.0 _ c.entry_for.ensures _ c.in-At.is _ c.entry_at-old.ensures _ c.release.ensures _ c.put_entry.ensures
+returns c = entered_at (machine c.args.words.now) c.args.row c.args.page.0 c.args.frame.0 _ c.entry_for.ensures _ c.in-Some.is _ c.entry_at-old.ensures _ c.release.ensures _ c.put_entry.ensures

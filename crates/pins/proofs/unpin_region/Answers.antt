@@ -11,4 +11,4 @@ returns-then-ends c =
 pub returns : goal.returns
 returns c =
     let from = c.args in
-    unpin_stays (machine from.words.now) from.process from.slot _ c.region_in-region.ensures _ c.ends.ensures c.if-ends.false _ c.fewer.ensures _ c.with_pins-row.ensures _ c.put_region.ensures
+    unpin_stays (machine from.words.now) from.process from.slot _ c.region_in-region.ensures _ c.ends.ensures c.if-ends.false _ c.saturating_sub.ensures _ c.with_pins-row.ensures _ c.put_region.ensures

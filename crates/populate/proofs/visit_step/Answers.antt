@@ -12,11 +12,11 @@ returns-in_default c =
     step_gap c.args.process c.args.last.0 c.args.write c.args.at c.requires.left_nonzero c.requires.done_value _ c.requires.files_value c.if-last-at.false _ (at_start _ _ c.args.at.page.0 _ _ c.start_address.ensures c.if-last-at.false c.requires.last_bound _ c.region_for.ensures) c.in_default.is _ c.next_region.ensures
 
 pub populate_page-done-requires : goal.populate_page-done-requires
-populate_page-done-requires c = record { words_len = search rules; fault_fits = found_fits _ _ _ c.requires.files_value _ _ c.args.at.page.0 _ (at_start _ _ c.args.at.page.0 _ _ c.start_address.ensures c.if-last-at.false c.requires.last_bound _ c.region_for.ensures) c.in-At.is }
+populate_page-done-requires c = record { words_len = search rules; fault_fits = found_fits _ _ _ c.requires.files_value _ _ c.args.at.page.0 _ (at_start _ _ c.args.at.page.0 _ _ c.start_address.ensures c.if-last-at.false c.requires.last_bound _ c.region_for.ensures) c.in-Some.is }
 
 pub returns : goal.returns
 returns c =
     let here = (at_start _ _ c.args.at.page.0 _ _ c.start_address.ensures c.if-last-at.false c.requires.last_bound _ c.region_for.ensures) in
-    let slot = c.in-At.is in
+    let slot = c.in-Some.is in
     let does = c.populate_page-done.ensures in
     step_page c.args.process c.args.last.0 c.args.write c.args.at c.requires.left_nonzero c.requires.done_value _ c.requires.files_value c.if-last-at.false _ here _ slot _ _ does (page_sound _ _ _ _ _ c.args.at.page.0 _ (found_fits _ _ _ c.requires.files_value _ _ c.args.at.page.0 _ here slot) _ _ _ does) _ c.after_page.ensures

@@ -5,6 +5,3 @@ use Rattle.populate_visit.proofs.next_start.Given as goal
 
 abbrev pub invariant-loop-i : goal.invariant-loop-i
 invariant-loop-i l = FoundFrom (machine l.words) l.process l.page.0 l.i l.found
-
-abbrev pub decreases-loop-i : goal.decreases-loop-i
-decreases-loop-i l = l.i

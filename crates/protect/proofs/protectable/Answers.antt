@@ -1,7 +1,12 @@
 -- `protectable`: the refusals of protect, in their order.
-use mathlib.Core.Path.{sym, ◌∙◌}
+use Rattle.std.proofs.lemmas.Result.{err_from_is_err_and}
+use native.Mathlib.Omega.{arith}
+use mathlib.Core.Path.{◌≡◌, sym, ◌∙◌}
+use Rattle.std.specs.Prelude.{ℕ, Result, Err, Some, None}
+use Rattle.answers.specs.declared.Refusal.{Refusal}
+use Rattle.answers.specs.declared.Refusal.TheVariants.{NoRegion}
 use Rattle.lookup.specs.FirstOfLaws.{open_small}
-use Rattle.protect.specs.ProtectCallLaws.{good_told, bad_told, protect_closed, protect_address, protect_flags, protect_none, protect_shared, protect_some}
+use Rattle.protect.specs.ProtectCallLaws.{good_by_test, bad_by_test, protect_closed, protect_address, protect_flags, protect_none, protect_shared, protect_some}
 use borrow.Author.Rules.{rules}
 use Rattle.protect.proofs.protectable.Goals as goal
 
@@ -15,20 +20,22 @@ returns-then-not-is_user c =
     let from = c.args in
     protect_address from.words.now from.process from.addr.0 from.flags (sym c.is_open.ensures ∙ c.if-not-is_open.false) (sym c.is_user.ensures ∙ c.if-not-is_user.true)
 
-pub returns-in_default : goal.returns-in_default
-returns-in_default c =
+pub returns-then-is_none : goal.returns-then-is_none
+returns-then-is_none c =
     let from = c.args in
-    protect_flags from.words.now from.process from.addr.0 from.flags (sym c.is_open.ensures ∙ c.if-not-is_open.false) (sym c.is_user.ensures ∙ c.if-not-is_user.false) (bad_told _ (sym c.in_default.is ∙ c.from_bits.ensures))
+    protect_flags from.words.now from.process from.addr.0 from.flags (sym c.is_open.ensures ∙ c.if-not-is_open.false) (sym c.is_user.ensures ∙ c.if-not-is_user.false) (bad_by_test _ _ c.from_bits.ensures c.if-is_none.ensures)
 
 pub region_for-requires : goal.region_for-requires
 region_for-requires c =
     let from = c.args in
     let small = open_small from.words.now from.process (sym c.is_open.ensures ∙ c.if-not-is_open.false) in record { words_len = search rules; process_bound = search rules }
 
-pub returns-in_default-region_for : goal.returns-in_default-region_for
-returns-in_default-region_for c =
+pub returns-in_err-slot : goal.returns-in_err-slot
+returns-in_err-slot c =
     let from = c.args in
-    protect_none from.words.now from.process from.addr.0 from.flags (sym c.is_open.ensures ∙ c.if-not-is_open.false) (sym c.is_user.ensures ∙ c.if-not-is_user.false) (good_told _ _ (sym c.in-Good.is ∙ c.from_bits.ensures)) (sym c.in_default-region_for.is ∙ c.region_for.ensures)
+    let p = err_from_is_err_and c.from_residual.result c.from_residual.ensures.1 in
+    let same : ◌≡◌ {A = Result ℕ Refusal} (Err c.in_err-slot.field-0.0) (Err NoRegion) = grind arith in
+    rw (p.1, p.2) (same ∙ protect_none from.words.now from.process from.addr.0 from.flags (sym c.is_open.ensures ∙ c.if-not-is_open.false) (sym c.is_user.ensures ∙ c.if-not-is_user.false) (good_by_test _ _ c.from_bits.ensures c.if-is_none.ensures) (let none : c.region_for.result ≡ None = grind arith in sym none ∙ c.region_for.ensures))
 
 pub region_in-region-requires : goal.region_in-region-requires
 region_in-region-requires c =
@@ -38,9 +45,9 @@ region_in-region-requires c =
 pub returns-then-region-eq-SHARED : goal.returns-then-region-eq-SHARED
 returns-then-region-eq-SHARED c =
     let from = c.args in
-    protect_shared from.words.now from.process from.addr.0 from.flags (sym c.is_open.ensures ∙ c.if-not-is_open.false) (sym c.is_user.ensures ∙ c.if-not-is_user.false) (good_told _ _ (sym c.in-Good.is ∙ c.from_bits.ensures)) _ (sym c.in-At.is ∙ c.region_for.ensures) _ c.region_in-region.ensures c.if-region-eq-SHARED.true
+    protect_shared from.words.now from.process from.addr.0 from.flags (sym c.is_open.ensures ∙ c.if-not-is_open.false) (sym c.is_user.ensures ∙ c.if-not-is_user.false) (good_by_test _ _ c.from_bits.ensures c.if-is_none.ensures) _ (let some : c.region_for.result ≡ Some c.in_ok-slot.slot = grind arith in sym some ∙ c.region_for.ensures) _ c.region_in-region.ensures c.if-region-eq-SHARED.true
 
 pub returns : goal.returns
 returns c =
     let from = c.args in
-    protect_some from.words.now from.process from.addr.0 from.flags (sym c.is_open.ensures ∙ c.if-not-is_open.false) (sym c.is_user.ensures ∙ c.if-not-is_user.false) (good_told _ _ (sym c.in-Good.is ∙ c.from_bits.ensures)) _ (sym c.in-At.is ∙ c.region_for.ensures) _ c.region_in-region.ensures c.if-region-eq-SHARED.false
+    protect_some from.words.now from.process from.addr.0 from.flags (sym c.is_open.ensures ∙ c.if-not-is_open.false) (sym c.is_user.ensures ∙ c.if-not-is_user.false) (good_by_test _ _ c.from_bits.ensures c.if-is_none.ensures) _ (let some : c.region_for.result ≡ Some c.in_ok-slot.slot = grind arith in sym some ∙ c.region_for.ensures) _ c.region_in-region.ensures c.if-region-eq-SHARED.false

@@ -1,7 +1,6 @@
 -- The answers for `demote_rows`.
 use mathlib.Core.Path.{refl}
 use native.Mathlib.Omega.{arith}
-use borrow.Author.Rules.{rules}
 use Rattle.remap.specs.Demoted.{read_only_in}
 use Rattle.remap.specs.RemappedLaws.{doing_first, doing_more, doing_all}
 use Rattle.remap.proofs.demote_rows.Goals as goal
@@ -10,9 +9,6 @@ pub loop-i-init : goal.loop-i-init
 loop-i-init c =
     let from = c.args in
     (omega arith, doing_first (read_only_in from.region) from.words.now from.process (omega arith) (omega arith))
-
-pub demote_row-requires : goal.demote_row-requires
-demote_row-requires c = let sized = c.loop-i.invariant.1.sized in record { words_len = search rules; process_bound = search rules; i_bound = search rules }
 
 pub loop-i-preserved : goal.loop-i-preserved
 loop-i-preserved c =

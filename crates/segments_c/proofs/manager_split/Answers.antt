@@ -12,8 +12,8 @@ pub returns-then-out-ne4 : goal.returns-then-out-ne4
 unfolding split_on
 returns-then-out-ne4 c = other_out c.args.words.now c.args.out.now _ c.if-words-ne131.false c.if-out-ne4.true
 
-pub returns-in-Refused : goal.returns-in-Refused
-returns-in-Refused c = split_no c.split.new.words c.put_out.new.out c.split.result _ c.number.result c.in-Refused.is c.number.ensures c.put_out.ensures ∙ split_is c.args.words.now c.split.new.words c.args.out.now c.if-words-ne131.false c.if-out-ne4.false c.args.start c.args.len c.args.at c.split.result c.split.ensures
+pub returns-in-Err : goal.returns-in-Err
+returns-in-Err c = split_no c.split.new.words c.put_out.new.out c.split.result _ c.number.result c.in-Err.is c.number.ensures c.put_out.ensures ∙ split_is c.args.words.now c.split.new.words c.args.out.now c.if-words-ne131.false c.if-out-ne4.false c.args.start c.args.len c.args.at c.split.result c.split.ensures
 
-pub returns-in-Parts : goal.returns-in-Parts
-returns-in-Parts c = split_parts c.split.new.words c.put_out-in-Parts.new.out c.split.result _ _ c.in-Parts.is c.put_out-in-Parts.ensures ∙ split_is c.args.words.now c.split.new.words c.args.out.now c.if-words-ne131.false c.if-out-ne4.false c.args.start c.args.len c.args.at c.split.result c.split.ensures
+pub returns-in-Ok : goal.returns-in-Ok
+returns-in-Ok c = split_parts c.split.new.words c.put_out-in-Ok.new.out c.split.result _ _ c.in-Ok.is c.put_out-in-Ok.ensures ∙ split_is c.args.words.now c.split.new.words c.args.out.now c.if-words-ne131.false c.if-out-ne4.false c.args.start c.args.len c.args.at c.split.result c.split.ensures

@@ -1,5 +1,4 @@
 -- `lowest_free` finds the lowest free frame. The invariant: the rest of the pass gives the same answer.
-use Rattle.std.proofs.Common.{◌-◌}
 use Rattle.model.specs.Layout.{machine}
 use Rattle.backing.specs.BackingSteps.{framed}
 use Rattle.backing.specs.FreeSearchLaws.{LowestSought}
@@ -7,6 +6,3 @@ use Rattle.backing.proofs.free.lowest_free.Given as goal
 
 abbrev pub invariant-loop-i : goal.invariant-loop-i
 invariant-loop-i l = LowestSought l.initial.i (framed (machine l.words)) l.rows l.i l.covered
-
-abbrev pub decreases-loop-i : goal.decreases-loop-i
-decreases-loop-i l = l.rows - l.i

@@ -14,4 +14,4 @@ pub returns-in_default : goal.returns-in_default
 returns-in_default c = answered _ _ _ _ (there 8 _ _ c.if-words-ne11844.false c.if-process-ge8.false) (ap (frame_or (2 ^ 64 - 1)) (sym c.in_default.is ∙ c.translate.ensures))
 
 pub returns : goal.returns
-returns c = answered _ _ _ _ (there 8 _ _ c.if-words-ne11844.false c.if-process-ge8.false) (ap (frame_or (2 ^ 64 - 1)) (sym c.in-Mapped.is ∙ c.translate.ensures))
+returns c = answered _ _ _ _ (there 8 _ _ c.if-words-ne11844.false c.if-process-ge8.false) (ap (frame_or (2 ^ 64 - 1)) (sym c.in-Some.is ∙ c.translate.ensures))

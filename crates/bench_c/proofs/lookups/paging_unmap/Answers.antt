@@ -14,4 +14,4 @@ pub returns-in_default : goal.returns-in_default
 returns-in_default c = let yes = there 8 _ _ c.if-words-ne11844.false c.if-process-ge8.false in record { value = answered _ _ _ _ yes (ap mapped_one (sym c.in_default.is ∙ c.unmap.ensures.value)); left = left_changed _ _ _ _ yes c.unmap.ensures.words_after }
 
 pub returns : goal.returns
-returns c = let yes = there 8 _ _ c.if-words-ne11844.false c.if-process-ge8.false in record { value = answered _ _ _ _ yes (ap mapped_one (sym c.in-Mapped.is ∙ c.unmap.ensures.value)); left = left_changed _ _ _ _ yes c.unmap.ensures.words_after }
+returns c = let yes = there 8 _ _ c.if-words-ne11844.false c.if-process-ge8.false in record { value = answered _ _ _ _ yes (ap mapped_one (sym c.in-Some.is ∙ c.unmap.ensures.value)); left = left_changed _ _ _ _ yes c.unmap.ensures.words_after }

@@ -1,12 +1,6 @@
--- The answers for `arguments`.
-use Rattle.call_rows.specs.AskedLaws.{puts_none, puts_more, puts_all}
+-- The answer for `arguments`.
+use Rattle.laws.specs.ListsLaws.{fill_pad}
 use Rattle.call_rows.proofs.asked.arguments.Goals as goal
 
-pub loop-i-init : goal.loop-i-init
-loop-i-init c = puts_none c.args.given.now
-
-pub loop-i-preserved : goal.loop-i-preserved
-loop-i-preserved c = puts_more c.args.given.now c.loop-i.i c.loop-i.args c.loop-i.invariant c.requires c.loop-i-test.true
-
 pub returns : goal.returns
-returns c = puts_all c.args.given.now c.loop-i.i c.loop-i.args c.loop-i.invariant c.loop-i-test.false
+returns c = rw c.copy_from_slice.ensures.after (fill_pad 10 0 c.args.given.now c.requires)

@@ -18,8 +18,8 @@ slice_bounds-start-start c = started c.args.call.now c.requires.call_value
 pub bounds-row-0 : goal.bounds-row-0
 bounds-row-0 c = let l = row_long c.args.row.now c.requires.row_value in omega arith
 
-pub returns-in-Yes : goal.returns-in-Yes
-returns-in-Yes c = record { ran_one = one_started _ _ _ _ c.requires.call_value _ _ _ c.start-answer.ensures (number_put c.args.row.now c.requires.row_value _ _ c.tell_done.ensures); value = started_sound _ _ _ _ _ _ (sym c.in-Yes.is) c.start-answer.ensures c.start-answer.auto.words }
+pub returns-in-Ok : goal.returns-in-Ok
+returns-in-Ok c = record { ran_one = one_started _ _ _ _ c.requires.call_value _ _ _ c.start-answer.ensures (number_put c.args.row.now c.requires.row_value _ _ c.tell_done.ensures); value = started_sound _ _ _ _ _ _ (sym c.in-Ok.is) c.start-answer.ensures c.start-answer.auto.words }
 
-pub returns-in-No : goal.returns-in-No
-returns-in-No c = record { ran_one = one_started _ _ _ _ c.requires.call_value _ _ _ c.start-answer.ensures (number_put c.args.row.now c.requires.row_value _ _ c.tell_done.ensures); value = c.requires.sound_value ∙ ap (λ (w : List ℕ). sound_lent w c.args.frames.now c.args.files.now) (sym (c.start-answer.ensures.1 _ c.in-No.is)) }
+pub returns-in-Err : goal.returns-in-Err
+returns-in-Err c = record { ran_one = one_started _ _ _ _ c.requires.call_value _ _ _ c.start-answer.ensures (number_put c.args.row.now c.requires.row_value _ _ c.tell_done.ensures); value = c.requires.sound_value ∙ ap (λ (w : List ℕ). sound_lent w c.args.frames.now c.args.files.now) (sym (c.start-answer.ensures.1 _ c.in-Err.is)) }

@@ -8,7 +8,7 @@ pub loop-i-init : goal.loop-i-init
 loop-i-init c = (omega arith, nth_start c.args.list.now c.args.place)
 
 pub loop-i-preserved : goal.loop-i-preserved
-loop-i-preserved c = (omega arith, nth_more c.args.list.now c.args.place c.loop-i.i c.loop-i.at c.loop-i-test.true c.next_word-word.result c.next_word-word.ensures.value ∙ c.loop-i.invariant.1)
+loop-i-preserved c = (omega arith, nth_more c.args.list.now c.args.place c.loop-i.i c.loop-i.at c.loop-i-test.true c.next_word-at.result c.next_word-at.ensures.value ∙ c.loop-i.invariant.1)
 
 pub returns : goal.returns
 returns c = record { value = nth_here c.args.list.now c.args.place c.loop-i.i c.loop-i.at c.loop-i-test.false c.next_word.result c.next_word.ensures.value ∙ c.loop-i.invariant.1; in_list = record { ordered = omega arith; ends = omega arith } }

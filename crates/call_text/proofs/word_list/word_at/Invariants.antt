@@ -7,6 +7,3 @@ use Rattle.call_text.proofs.word_list.word_at.Given as goal
 
 abbrev pub invariant-loop-i : goal.invariant-loop-i
 invariant-loop-i l = (l.at ≤ length l.list) × (nth_from (l.place - l.i) l.list l.at ≡ nth_in l.list l.place)
-
-abbrev pub decreases-loop-i : goal.decreases-loop-i
-decreases-loop-i l = l.place - l.i

@@ -1,13 +1,8 @@
 -- `carve_one`: refused, or split.
-use mathlib.Core.Path.{refl, sym, ◌∙◌}
+use Rattle.std.specs.Prelude.{◌≡◌, refl, Err}
+use mathlib.Core.Path.{sym, ◌∙◌}
 use borrow.Author.Rules.{rules}
 use Rattle.carve_cut.proofs.one.carve_one.Goals as goal
 
-pub returns-in-No : goal.returns-in-No
-returns-in-No c = record { value = sym c.in-No.is ∙ c.split_refusal.ensures; words_after = refl }
-
-pub split_at_bounds-requires : goal.split_at_bounds-requires
-split_at_bounds-requires c = let l = c.requires.words_len in let p = c.requires.process_bound in let b = c.requires.bounded (sym c.in-Yes.is ∙ c.split_refusal.ensures) in record { words_len = search rules; process_bound = search rules; bounded = search rules }
-
-pub returns-in-Yes : goal.returns-in-Yes
-returns-in-Yes c = record { value = sym c.in-Yes.is ∙ c.split_refusal.ensures; words_after = c.split_at_bounds.ensures }
+pub returns-in_err-split_refusal : goal.returns-in_err-split_refusal
+returns-in_err-split_refusal c = let e : c.from_residual.result ≡ Err c.in_err-split_refusal.field-0.0 = search rules in record { value = e ∙ sym c.in_err-split_refusal.was ∙ c.split_refusal.ensures; words_after = rw e refl }

@@ -1,11 +1,10 @@
 -- `lacks_run`: only a run that is needed and not there is missed.
-use mathlib.Core.Path.{ap}
-use Rattle.backing.specs.BackingSteps.{found_frame}
-use Rattle.create.specs.PlansLaws.{lacks_none, lacks_not}
+use mathlib.Core.Path.{sym, ◌∙◌}
+use Rattle.create.specs.PlansLaws.{lacks_tested, lacks_untold}
 use Rattle.create.proofs.plan.lacks_run.Goals as goal
 
-pub returns-in_default : goal.returns-in_default
-returns-in_default c = let a = c.args in lacks_none a.eager a.region (found_frame a.run) (ap found_frame c.in_default.is) _ c.is_run_needed.ensures
+pub returns-then-is_some : goal.returns-then-is_some
+returns-then-is_some c = lacks_tested c.args.eager c.args.region c.args.run (sym c.is_some.ensures ∙ c.if-is_some.true)
 
 pub returns : goal.returns
-returns c = let a = c.args in lacks_not a.eager a.region (found_frame a.run) _ (ap found_frame c.in-At.is)
+returns c = lacks_untold c.args.eager c.args.region c.args.run (sym c.is_some.ensures ∙ c.if-is_some.false) _ c.is_run_needed.ensures

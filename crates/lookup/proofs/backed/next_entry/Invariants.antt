@@ -6,6 +6,3 @@ use Rattle.lookup.proofs.backed.next_entry.Given as goal
 
 abbrev pub invariant-loop-i : goal.invariant-loop-i
 invariant-loop-i l = Seen (machine l.words).entries (l.row + 1) l.page.0 512 l.i l.found
-
-abbrev pub decreases-loop-i : goal.decreases-loop-i
-decreases-loop-i l = l.i

@@ -1,5 +1,4 @@
 -- `free_entries` counts the free page entries. The invariant: what is counted and what is left come to the whole count.
-use Prim.Native.Nat.{◌-◌}
 use Rattle.model.specs.Layout.{machine}
 use Rattle.laws.specs.Loops.{Counted}
 use Rattle.lookup.specs.LookupsLaws.{unowned}
@@ -7,6 +6,3 @@ use Rattle.lookup.proofs.search.free_entries.Given as goal
 
 abbrev pub invariant-loop-i : goal.invariant-loop-i
 invariant-loop-i l = Counted unowned (machine l.words).entries 512 l.i l.n
-
-abbrev pub decreases-loop-i : goal.decreases-loop-i
-decreases-loop-i l = 512 - l.i

@@ -1,5 +1,4 @@
 -- `free_slot` finds the lowest free slot of a process. The invariant: what is left to look at gives the same answer.
-use Prim.Native.Nat.{◌-◌}
 use Rattle.model.specs.Layout.{machine}
 use Rattle.model.specs.Lookup.{regions_of}
 use Rattle.lookup.specs.ScanLaws.{Passed}
@@ -8,6 +7,3 @@ use Rattle.lookup.proofs.search.free_slot.Given as goal
 
 abbrev pub invariant-loop-i : goal.invariant-loop-i
 invariant-loop-i l = Passed free_region (regions_of (machine l.words) l.process) 64 l.i
-
-abbrev pub decreases-loop-i : goal.decreases-loop-i
-decreases-loop-i l = 64 - l.i

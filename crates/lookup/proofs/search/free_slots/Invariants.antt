@@ -1,5 +1,4 @@
 -- `free_slots` counts the free slots of a process. The invariant: what is counted and what is left come to the whole count.
-use Prim.Native.Nat.{◌-◌}
 use Rattle.model.specs.Layout.{machine}
 use Rattle.model.specs.Lookup.{regions_of}
 use Rattle.laws.specs.Loops.{Counted}
@@ -8,6 +7,3 @@ use Rattle.lookup.proofs.search.free_slots.Given as goal
 
 abbrev pub invariant-loop-i : goal.invariant-loop-i
 invariant-loop-i l = Counted free_region (regions_of (machine l.words) l.process) 64 l.i l.n
-
-abbrev pub decreases-loop-i : goal.decreases-loop-i
-decreases-loop-i l = 64 - l.i

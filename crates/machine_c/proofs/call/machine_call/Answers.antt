@@ -12,5 +12,5 @@ returns-then-is_start c = call_starts c.args.call.now c.args.words.now c.args.fr
 pub returns-in-None : goal.returns-in-None
 returns-in-None c = call_none c.args.call.now c.args.words.now c.args.frames.now c.args.files.now c.args.out.now c.if-out-ne65.false (sym c.is_start.ensures ∙ c.if-is_start.false) (sym c.in-None.is ∙ c.call_in.ensures)
 
-pub returns-in-Is : goal.returns-in-Is
-returns-in-Is c = call_runs c.args.call.now c.args.words.now c.args.frames.now c.args.files.now c.args.out.now c.if-out-ne65.false (sym c.is_start.ensures ∙ c.if-is_start.false) _ (sym c.in-Is.is ∙ c.call_in.ensures) _ _ _ _ (c.run_call.ensures.value, (c.run_call.ensures.out_after, c.run_call.ensures.leaves))
+pub returns-in-Some : goal.returns-in-Some
+returns-in-Some c = call_runs c.args.call.now c.args.words.now c.args.frames.now c.args.files.now c.args.out.now c.if-out-ne65.false (sym c.is_start.ensures ∙ c.if-is_start.false) _ (sym c.in-Some.is ∙ c.call_in.ensures) _ _ _ _ (c.run_call.ensures.value, (c.run_call.ensures.out_after, c.run_call.ensures.leaves))

@@ -18,7 +18,7 @@ row_at-row-requires c =
     let given = c.args in
     let w = given.words.now in
     let p = given.process in
-    let inside = row_inside (mapped_of (machine w) p) given.page.0 c.in-At.at (sym c.in-At.is ∙ c.row_for.ensures) in
+    let inside = row_inside (mapped_of (machine w) p) given.page.0 c.in-Some.at (sym c.in-Some.is ∙ c.row_for.ensures) in
     let most = mapped_most (machine w) p c.requires.process_bound (mapped_length w) in record { words_len = search rules; process_bound = search rules; i_bound = search rules }
 
 pub put_row-requires : goal.put_row-requires
@@ -26,9 +26,9 @@ put_row-requires c =
     let given = c.args in
     let w = given.words.now in
     let p = given.process in
-    let inside = row_inside (mapped_of (machine w) p) given.page.0 c.in-At.at (sym c.in-At.is ∙ c.row_for.ensures) in
+    let inside = row_inside (mapped_of (machine w) p) given.page.0 c.in-Some.at (sym c.in-Some.is ∙ c.row_for.ensures) in
     let most = mapped_most (machine w) p c.requires.process_bound (mapped_length w) in record { words_len = search rules; process_bound = search rules; i_bound = search rules }
 
 pub returns : goal.returns
 returns c =
-    let given = c.args in let the = remap_found (machine given.words.now) given.process given.page.0 given.flags.0 c.in-At.at _ _ (sym c.in-At.is ∙ c.row_for.ensures) c.row_at-row.ensures c.put_row.ensures in record { value = the.0; words_after = the.1 }
+    let given = c.args in let the = remap_found (machine given.words.now) given.process given.page.0 given.flags.0 c.in-Some.at _ _ (sym c.in-Some.is ∙ c.row_for.ensures) c.row_at-row.ensures c.put_row.ensures in record { value = the.0; words_after = the.1 }

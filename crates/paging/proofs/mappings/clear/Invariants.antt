@@ -7,6 +7,3 @@ use Rattle.paging.proofs.mappings.clear.Given as goal
 
 abbrev pub invariant-loop-i : goal.invariant-loop-i
 invariant-loop-i l = Putting l.initial.words l.process l.from (replicate (l.to - l.from) no_mapping) (l.to - l.from) l.i l.words
-
-abbrev pub decreases-loop-i : goal.decreases-loop-i
-decreases-loop-i l = l.to - l.from - l.i

@@ -8,6 +8,3 @@ use Rattle.paging.proofs.mappings.lower.Given as goal
 
 abbrev pub invariant-loop-i : goal.invariant-loop-i
 invariant-loop-i l = Putting l.initial.words l.process l.at (slice l.from l.to (rows_of (machine l.initial.words) l.process)) (l.to - l.from) l.i l.words
-
-abbrev pub decreases-loop-i : goal.decreases-loop-i
-decreases-loop-i l = l.to - l.from - l.i

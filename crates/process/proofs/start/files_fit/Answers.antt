@@ -7,7 +7,6 @@ use Rattle.laws.specs.TestLaws.{all_as_rows}
 use Rattle.laws.specs.LoopLaws.{every_first, every_fails, every_more, every_all}
 use Rattle.process.specs.Start.{files_of}
 use Rattle.process.specs.StartLaws.{files_number, file_row_is}
-use borrow.Author.Rules.{rules}
 use Rattle.process.proofs.start.files_fit.Goals as goal
 
 pub loop-i-init : goal.loop-i-init
@@ -18,12 +17,6 @@ file_in-file-requires c = let more = c.loop-i-test.true in omega arith
 
 pub returns-then-not-is_lent : goal.returns-then-not-is_lent
 returns-then-not-is_lent c = every_fails (λ j f. is_lent c.args.bytes f) (files_of c.args.rows.now) _ (files_number c.args.rows.now) c.loop-i.i c.loop-i.invariant c.loop-i-test.true no_file _ (file_row_is c.args.rows.now c.loop-i.i _ c.loop-i-test.true c.file_in-file.ensures) (sym c.is_lent.ensures ∙ c.if-not-is_lent.true) ∙ sym (all_as_rows (is_lent c.args.bytes) 0 (files_of c.args.rows.now))
-
-pub overflow_add-i : goal.overflow_add-i
-overflow_add-i c = let more = c.loop-i-test.true in search rules
-
-pub loop-i-smaller : goal.loop-i-smaller
-loop-i-smaller c = let more = c.loop-i-test.true in search rules
 
 pub loop-i-preserved : goal.loop-i-preserved
 loop-i-preserved c = every_more (λ j f. is_lent c.args.bytes f) (files_of c.args.rows.now) _ (files_number c.args.rows.now) c.loop-i.i c.loop-i.invariant c.loop-i-test.true no_file _ (file_row_is c.args.rows.now c.loop-i.i _ c.loop-i-test.true c.file_in-file.ensures) (sym c.is_lent.ensures ∙ c.if-not-is_lent.false)

@@ -13,12 +13,6 @@ file_in-file-requires c = let more = c.loop-i-test.true in omega arith
 pub put_file-requires : goal.put_file-requires
 put_file-requires c = let more = c.loop-i-test.true in let few = c.requires.rows_len_bound in record { words_len = c.loop-i.invariant.0; i_bound = omega arith }
 
-pub overflow_add-i : goal.overflow_add-i
-overflow_add-i c = let more = c.loop-i-test.true in search rules
-
-pub loop-i-smaller : goal.loop-i-smaller
-loop-i-smaller c = let more = c.loop-i-test.true in search rules
-
 pub loop-i-preserved : goal.loop-i-preserved
 loop-i-preserved c = files_more _ c.args.rows.now c.loop-i.i c.loop-i.words _ _ c.loop-i.invariant c.loop-i-test.true c.requires.rows_len_bound c.file_in-file.ensures c.put_file.auto.words c.put_file.ensures
 

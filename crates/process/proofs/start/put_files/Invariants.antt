@@ -1,10 +1,6 @@
 -- `put_files`. The invariant: the first i files are put. The measure is what is left.
-use Prim.Native.Nat.{◌-◌}
 use Rattle.process.specs.StartLaws.{FilesPut}
 use Rattle.process.proofs.start.put_files.Given as goal
 
 abbrev pub invariant-loop-i : goal.invariant-loop-i
 invariant-loop-i l = FilesPut l.initial.words l.rows l.i l.words
-
-abbrev pub decreases-loop-i : goal.decreases-loop-i
-decreases-loop-i l = l.n - l.i

@@ -22,7 +22,7 @@ pub order_at-slot-requires : goal.order_at-slot-requires
 order_at-slot-requires c = let low = c.requires.process_bound in let few = c.attached_count-n.ensures.upper_bound in record { words_len = search rules; i_bound = search rules }
 
 pub loop-i-preserved : goal.loop-i-preserved
-loop-i-preserved c = left_next c.args.words.now c.args.process c.args.start c.args.end _ c.attached_count-n.ensures.value c.attached_count-n.ensures.upper_bound _ _ c.loop-i.invariant _ c.order_at-slot.ensures _ c.slot_len.ensures c.loop-i-test.true _ c.less-left.ensures
+loop-i-preserved c = left_next c.args.words.now c.args.process c.args.start c.args.end _ c.attached_count-n.ensures.value c.attached_count-n.ensures.upper_bound _ _ c.loop-i.invariant _ c.order_at-slot.ensures _ c.slot_len.ensures c.loop-i-test.true _ c.saturating_sub-left.ensures
 
 pub returns : goal.returns
 returns c = λ sound. left_done c.args.words.now c.args.process c.args.start c.args.end _ c.attached_count-n.ensures.value c.attached_count-n.ensures.upper_bound _ _ c.loop-i.invariant c.loop-i-test.false c.requires.process_bound c.if-end-start.false sound

@@ -1,13 +1,9 @@
--- `end_within` is end_within: no sum is made that could be too large.
+-- `end_within` is end_within: a sum that is too large ends at the last number, past the range's end.
+use mathlib.Core.Path.{ap, ◌∙◌}
 use native.Mathlib.Omega.{arith}
-use Rattle.regions.specs.CoverLaws.{ends_before, ends_past}
+use Rattle.std.specs.Prelude.{ℕ, min}
+use Rattle.regions.specs.CoverLaws.{ends_within}
 use Rattle.regions.proofs.cover.end_within.Goals as goal
 
-pub returns-then-end-region : goal.returns-then-end-region
-returns-then-end-region c = ends_past c.args.region c.args.end (omega arith)
-
-pub returns-then-region-end : goal.returns-then-region-end
-returns-then-region-end c = ends_before c.args.region c.args.end (omega arith)
-
 pub returns : goal.returns
-returns c = ends_past c.args.region c.args.end (omega arith)
+returns c = ends_within c.args.region c.args.end _ (omega arith) (c.min.ensures ∙ ap (λ (n : ℕ). min n c.args.end) c.saturating_add.ensures)

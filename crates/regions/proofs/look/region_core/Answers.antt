@@ -1,4 +1,5 @@
 -- `region_core`: the region that is named, or why there is none.
+use Rattle.std.specs.Prelude.{◌≡◌, Err}
 use native.Mathlib.Omega.{arith}
 use Rattle.lookup.specs.NamedLaws.{named_slot, named_no}
 use Rattle.lookup.specs.NamedSlotLaws.{named_small}
@@ -7,16 +8,16 @@ use borrow.Author.Rules.{rules}
 use Rattle.regions.proofs.look.region_core.Goals as goal
 
 pub overflow_mul-process : goal.overflow_mul-process
-overflow_mul-process c = let small = named_small _ c.requires.sound_words _ _ _ _ c.region_named.ensures c.in-Slot.is in omega arith
+overflow_mul-process c = let small = named_small _ c.requires.sound_words _ _ _ _ c.region_named.ensures c.in_ok-slot.was in omega arith
 
 pub overflow_add-process : goal.overflow_add-process
-overflow_add-process c = let small = named_small _ c.requires.sound_words _ _ _ _ c.region_named.ensures c.in-Slot.is in omega arith
+overflow_add-process c = let small = named_small _ c.requires.sound_words _ _ _ _ c.region_named.ensures c.in_ok-slot.was in omega arith
 
 pub region_at-row-requires : goal.region_at-row-requires
-region_at-row-requires c = let small = named_small _ c.requires.sound_words _ _ _ _ c.region_named.ensures c.in-Slot.is in record { words_len = search rules; i_bound = search rules }
+region_at-row-requires c = let small = named_small _ c.requires.sound_words _ _ _ _ c.region_named.ensures c.in_ok-slot.was in record { words_len = search rules; i_bound = search rules }
 
-pub returns-in-No : goal.returns-in-No
-returns-in-No c = region_refused _ _ _ _ (named_no _ _ _ _ c.region_named.ensures c.in-No.is)
+pub returns-in_err-slot : goal.returns-in_err-slot
+returns-in_err-slot c = let e : c.from_residual.result ≡ Err c.in_err-slot.field-0.0 = search rules in rw e (region_refused _ _ _ _ (named_no _ _ _ _ c.region_named.ensures c.in_err-slot.was))
 
-pub returns-in-Slot : goal.returns-in-Slot
-returns-in-Slot c = let named = named_slot _ _ _ _ c.region_named.ensures c.in-Slot.is in region_answered _ _ _ named.0 _ _ c.region_at-row.ensures named.1
+pub returns : goal.returns
+returns c = let named = named_slot _ _ _ _ c.region_named.ensures c.in_ok-slot.was in region_answered _ _ _ named.0 _ _ c.region_at-row.ensures named.1

@@ -17,25 +17,25 @@ pub returns-in_default : goal.returns-in_default
 returns-in_default c = slots_free c.args.words.now c.args.process c.args.last c.args.len c.loop-start.start (omega (arith, c.requires.len_nonzero)) _ c.first_over.ensures c.in_default.is ∙ c.loop-start.invariant
 
 pub overflow_add-process : goal.overflow_add-process
-overflow_add-process c = let low = slots_low c.args.words.now c.args.process c.args.last c.args.len c.loop-start.start (omega (arith, c.requires.len_nonzero)) _ c.first_over.ensures c.requires.process_bound _ c.in-At.is in omega arith
+overflow_add-process c = let low = slots_low c.args.words.now c.args.process c.args.last c.args.len c.loop-start.start (omega (arith, c.requires.len_nonzero)) _ c.first_over.ensures c.requires.process_bound _ c.in-Some.is in omega arith
 
 pub region_at-region-requires : goal.region_at-region-requires
-region_at-region-requires c = let low = slots_low c.args.words.now c.args.process c.args.last c.args.len c.loop-start.start (omega (arith, c.requires.len_nonzero)) _ c.first_over.ensures c.requires.process_bound _ c.in-At.is in record { words_len = c.requires.words_len; i_bound = omega (arith, c.requires.process_bound) }
+region_at-region-requires c = let low = slots_low c.args.words.now c.args.process c.args.last c.args.len c.loop-start.start (omega (arith, c.requires.len_nonzero)) _ c.first_over.ensures c.requires.process_bound _ c.in-Some.is in record { words_len = c.requires.words_len; i_bound = omega (arith, c.requires.process_bound) }
 
 pub overflow_sub-last-in-loop-start : goal.overflow_sub-last-in-loop-start
-overflow_sub-last-in-loop-start c = slots_begin c.args.words.now c.args.process c.args.last c.args.len c.loop-start.start (omega (arith, c.requires.len_nonzero)) _ c.first_over.ensures c.requires.process_bound _ c.in-At.is _ c.region_at-region.ensures
+overflow_sub-last-in-loop-start c = slots_begin c.args.words.now c.args.process c.args.last c.args.len c.loop-start.start (omega (arith, c.requires.len_nonzero)) _ c.first_over.ensures c.requires.process_bound _ c.in-Some.is _ c.region_at-region.ensures
 
 pub returns-then-last-region : goal.returns-then-last-region
-returns-then-last-region c = slots_blocked c.args.words.now c.args.process c.args.last c.args.len c.loop-start.start (omega (arith, c.requires.len_nonzero)) _ c.first_over.ensures c.requires.process_bound _ c.in-At.is _ c.region_at-region.ensures _ c.pages_for-pages.ensures c.if-last-region.true ∙ c.loop-start.invariant
+returns-then-last-region c = slots_blocked c.args.words.now c.args.process c.args.last c.args.len c.loop-start.start (omega (arith, c.requires.len_nonzero)) _ c.first_over.ensures c.requires.process_bound _ c.in-Some.is _ c.region_at-region.ensures _ c.pages_for-pages.ensures c.if-last-region.true ∙ c.loop-start.invariant
 
 pub overflow_add-start : goal.overflow_add-start
-overflow_add-start c = let b = slots_begin c.args.words.now c.args.process c.args.last c.args.len c.loop-start.start (omega (arith, c.requires.len_nonzero)) _ c.first_over.ensures c.requires.process_bound _ c.in-At.is _ c.region_at-region.ensures in omega (arith, c.ranges.last)
+overflow_add-start c = let b = slots_begin c.args.words.now c.args.process c.args.last c.args.len c.loop-start.start (omega (arith, c.requires.len_nonzero)) _ c.first_over.ensures c.requires.process_bound _ c.in-Some.is _ c.region_at-region.ensures in omega (arith, c.ranges.last)
 
 pub loop-start-smaller : goal.loop-start-smaller
-loop-start-smaller c = slots_falls c.args.words.now c.args.process c.args.last c.args.len c.loop-start.start (omega (arith, c.requires.len_nonzero)) _ c.first_over.ensures c.requires.process_bound _ c.in-At.is _ c.region_at-region.ensures _ c.pages_for-pages.ensures
+loop-start-smaller c = slots_falls c.args.words.now c.args.process c.args.last c.args.len c.loop-start.start (omega (arith, c.requires.len_nonzero)) _ c.first_over.ensures c.requires.process_bound _ c.in-Some.is _ c.region_at-region.ensures _ c.pages_for-pages.ensures
 
 pub loop-start-preserved : goal.loop-start-preserved
-loop-start-preserved c = slots_again c.args.words.now c.args.process c.args.last c.args.len c.loop-start.start (omega (arith, c.requires.len_nonzero)) _ c.first_over.ensures c.requires.process_bound _ c.in-At.is _ c.region_at-region.ensures _ c.pages_for-pages.ensures ∙ c.loop-start.invariant
+loop-start-preserved c = slots_again c.args.words.now c.args.process c.args.last c.args.len c.loop-start.start (omega (arith, c.requires.len_nonzero)) _ c.first_over.ensures c.requires.process_bound _ c.in-Some.is _ c.region_at-region.ensures _ c.pages_for-pages.ensures ∙ c.loop-start.invariant
 
 pub returns : goal.returns
 returns c = slots_late c.args.words.now c.args.process c.args.last c.args.len c.loop-start.start (omega arith) ∙ c.loop-start.invariant

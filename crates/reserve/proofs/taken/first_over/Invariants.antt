@@ -1,5 +1,4 @@
 -- `first_over` looks through the slots. The invariant: what is left to look at gives the same answer.
-use Prim.Native.Nat.{◌-◌}
 use Rattle.model.specs.Layout.{machine}
 use Rattle.model.specs.Lookup.{regions_of}
 use Rattle.lookup.specs.ScanLaws.{Passed}
@@ -8,6 +7,3 @@ use Rattle.reserve.proofs.taken.first_over.Given as goal
 
 abbrev pub invariant-loop-i : goal.invariant-loop-i
 invariant-loop-i l = Passed (over_used l.start l.len) (regions_of (machine l.words) l.process) 64 l.i
-
-abbrev pub decreases-loop-i : goal.decreases-loop-i
-decreases-loop-i l = 64 - l.i

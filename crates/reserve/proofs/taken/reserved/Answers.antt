@@ -1,15 +1,13 @@
 -- `reserved` tells whether a region is in the way.
-use Rattle.model.specs.declared.Found.TheVariants.{At, Nothing}
 use Rattle.model.specs.Layout.{machine}
+use Rattle.lookup.specs.LookupsLaws.{some_found}
 use Rattle.reserve.specs.InTheWayLaws.{reserved_empty, reserved_found}
-use mathlib.Core.Path.{sym, ◌∙◌}
+use borrow.Author.Tests.{eq-eqb}
+use mathlib.Core.Path.{◌∙◌}
 use Rattle.reserve.proofs.taken.reserved.Goals as goal
 
-pub returns-then-len-eq0 : goal.returns-then-len-eq0
-returns-then-len-eq0 c = reserved_empty (machine c.args.words.now) c.args.process c.args.start c.args.len c.if-len-eq0.true
+pub returns-then-len-ne0 : goal.returns-then-len-ne0
+returns-then-len-ne0 c = c.is_some.ensures ∙ some_found _ ∙ reserved_found (machine c.args.words.now) c.args.process c.args.start c.args.len c.if-len-ne0.true _ c.first_over.ensures
 
-pub returns-in_default : goal.returns-in_default
-returns-in_default c = reserved_found (machine c.args.words.now) c.args.process c.args.start c.args.len c.if-len-eq0.false Nothing (sym c.in_default.is ∙ c.first_over.ensures)
-
-pub returns : goal.returns
-returns c = reserved_found (machine c.args.words.now) c.args.process c.args.start c.args.len c.if-len-eq0.false (At _) (sym c.in-At.is ∙ c.first_over.ensures)
+pub returns-else-len-ne0 : goal.returns-else-len-ne0
+returns-else-len-ne0 c = rw (eq-eqb c.args.len 0 c.if-len-ne0.false) (reserved_empty (machine c.args.words.now) c.args.process c.args.start c.args.len c.if-len-ne0.false)

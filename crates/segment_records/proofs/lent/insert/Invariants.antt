@@ -5,6 +5,3 @@ use Rattle.segment_records.proofs.lent.insert.Given as goal
 
 abbrev pub invariant-loop-i : goal.invariant-loop-i
 invariant-loop-i l = record { inside : l.i ≤ l.n; same_rows : carry_over l.count (l.n - l.i) l.i l.c l.segments ≡ carry_over l.count l.n 0 (carrying_of l.fn.s) l.initial.segments }
-
-abbrev pub decreases-loop-i : goal.decreases-loop-i
-decreases-loop-i l = l.n - l.i

@@ -5,6 +5,3 @@ use Rattle.segment_records.proofs.lent.remove.Given as goal
 
 abbrev pub invariant-loop-i : goal.invariant-loop-i
 invariant-loop-i l = record { from : l.at ≤ l.i; same_rows : move_down (l.n - l.i) l.i l.segments ≡ move_down (l.n - l.at) l.at l.initial.segments }
-
-abbrev pub decreases-loop-i : goal.decreases-loop-i
-decreases-loop-i l = l.n - l.i

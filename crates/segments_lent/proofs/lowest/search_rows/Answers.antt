@@ -21,14 +21,11 @@ returns-then-probe-len c = search_stop (manager_of c.args.words.now) (sized c.ar
 pub past-requires : goal.past-requires
 past-requires c = let m = sound_most _ c.requires.words_value in let k = c.loop-i.invariant.1.0.0 in record { len_nonzero = c.requires.len_nonzero; len_bound = c.loop-i.invariant.1.0.1; s_bound = c.if-probe-len.false; restarts_bound = omega arith }
 
-pub returns-in_default : goal.returns-in_default
-returns-in_default c = search_none (manager_of c.args.words.now) (sized c.args.words.now) c.requires.words_value c.args.len c.args.mem_last _ _ c.loop-i.probe c.loop-i.i c.loop-i.invariant c.loop-i-test.true _ c.row_at-s.ensures c.if-probe-len.false _ c.past.ensures c.in_default.is
-
-pub overflow_add-i : goal.overflow_add-i
-overflow_add-i c = let m = sound_most _ c.requires.words_value in omega arith
+pub returns-in_err-probe : goal.returns-in_err-probe
+returns-in_err-probe c = rw c.from_residual.ensures (search_none (manager_of c.args.words.now) (sized c.args.words.now) c.requires.words_value c.args.len c.args.mem_last _ _ c.loop-i.probe c.loop-i.i c.loop-i.invariant c.loop-i-test.true _ c.row_at-s.ensures c.if-probe-len.false _ c.past.ensures c.in_err-probe.was)
 
 pub loop-i-preserved : goal.loop-i-preserved
-loop-i-preserved c = search_more (manager_of c.args.words.now) (sized c.args.words.now) c.requires.words_value c.args.len c.args.mem_last _ _ c.loop-i.probe c.loop-i.i c.loop-i.invariant c.loop-i-test.true _ c.row_at-s.ensures c.if-probe-len.false _ c.past.ensures _ c.in-On.is
+loop-i-preserved c = search_more (manager_of c.args.words.now) (sized c.args.words.now) c.requires.words_value c.args.len c.args.mem_last _ _ c.loop-i.probe c.loop-i.i c.loop-i.invariant c.loop-i-test.true _ c.row_at-s.ensures c.if-probe-len.false _ c.past.ensures _ c.in_ok-probe.was
 
 pub returns : goal.returns
 returns c = search_end (manager_of c.args.words.now) (sized c.args.words.now) c.requires.words_value c.args.len c.args.mem_last _ _ c.loop-i.probe c.loop-i.i c.loop-i.invariant c.loop-i-test.false

@@ -1,5 +1,4 @@
 -- `search_rows` is the search. The invariant: what is left to search gives the same answer.
-use Prim.Native.Nat.{◌-◌}
 use lib.ListN.{get_or}
 use Rattle.segments_lent.specs.LentWords.{manager_of}
 use Rattle.segments_lent.specs.OnePassLaws.{Searched}
@@ -7,6 +6,3 @@ use Rattle.segments_lent.proofs.lowest.search_rows.Given as goal
 
 abbrev pub invariant-loop-i : goal.invariant-loop-i
 invariant-loop-i l = Searched (manager_of l.words) l.len l.mem_last (get_or l.words 0 0) l.n l.probe l.i
-
-abbrev pub decreases-loop-i : goal.decreases-loop-i
-decreases-loop-i l = l.n - l.i

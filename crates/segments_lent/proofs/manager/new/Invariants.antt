@@ -1,10 +1,6 @@
 -- `new` makes an empty manager, or changes nothing. The invariant: the words up to i are the arena and zeros.
-use Prim.Native.Nat.{◌-◌}
 use Rattle.segments_lent.specs.LentLoopsLaws.{Cleared}
 use Rattle.segments_lent.proofs.manager.new.Given as goal
 
 abbrev pub invariant-loop-i : goal.invariant-loop-i
 invariant-loop-i l = Cleared l.initial.words l.words l.i
-
-abbrev pub decreases-loop-i : goal.decreases-loop-i
-decreases-loop-i l = 131 - l.i

@@ -3,7 +3,7 @@ use mathlib.Core.Path.{refl, sym, ◌∙◌}
 use native.Mathlib.Omega.{arith}
 use lib.ListN.{length-drop, length-take}
 use Rattle.segment.specs.FormLaws.{form_last}
-use Rattle.segments.specs.CallLaws.{any_empty, any_in, any_none, checked_most, checked_formed}
+use Rattle.segments.specs.CallLaws.{any_empty, any_some, checked_most, checked_formed}
 use Rattle.segments_lent.specs.LentWords.{manager_of}
 use Rattle.segments_lent.specs.LentWordsLaws.{rows_lent}
 use Rattle.segments_lent.specs.LentCallsLaws.{checked_length, checked_by_is}
@@ -27,8 +27,5 @@ overflow_add-segment c = let l = form_last c.args.segment (omega arith) (checked
 pub find_overlapping_at-requires : goal.find_overlapping_at-requires
 find_overlapping_at-requires c = let l = checked_length c.args.words.now c.args.segment _ refl c.requires in let m = checked_most (manager_of c.args.words.now) c.args.segment _ (checked_by_is c.args.words.now c.args.segment _ refl c.requires) c.requires in rw (length-take, length-drop) (omega arith)
 
-pub returns-in-In : goal.returns-in-In
-returns-in-In c = let l = checked_length c.args.words.now c.args.segment _ refl c.requires in let m = checked_most (manager_of c.args.words.now) c.args.segment _ (checked_by_is c.args.words.now c.args.segment _ refl c.requires) c.requires in any_in (manager_of c.args.words.now) c.args.segment c.if-len-eq0.false _ (rows_lent c.args.words.now l m) _ c.find_overlapping_at.ensures _ c.in-In.is
-
-pub returns-in_default : goal.returns-in_default
-returns-in_default c = let l = checked_length c.args.words.now c.args.segment _ refl c.requires in let m = checked_most (manager_of c.args.words.now) c.args.segment _ (checked_by_is c.args.words.now c.args.segment _ refl c.requires) c.requires in any_none (manager_of c.args.words.now) c.args.segment c.if-len-eq0.false _ (rows_lent c.args.words.now l m) _ c.find_overlapping_at.ensures c.in_default.is
+pub returns : goal.returns
+returns c = let l = checked_length c.args.words.now c.args.segment _ refl c.requires in let m = checked_most (manager_of c.args.words.now) c.args.segment _ (checked_by_is c.args.words.now c.args.segment _ refl c.requires) c.requires in c.is_some.ensures ∙ any_some (manager_of c.args.words.now) c.args.segment c.if-len-eq0.false _ (rows_lent c.args.words.now l m) _ c.find_overlapping_at.ensures

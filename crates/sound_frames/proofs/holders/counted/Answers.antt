@@ -1,6 +1,5 @@
 -- The answers for `counted`.
 use mathlib.Core.Path.{◌∙◌}
-use native.Mathlib.Omega.{arith}
 use Rattle.model.specs.Layout.{machine}
 use Rattle.model.specs.Machine.{no_backing}
 use Rattle.laws.specs.LoopLaws.{every_first, every_fails, every_more, every_all}
@@ -13,12 +12,6 @@ loop-f-init c = let m = machine c.args.words.now in every_first (held_in m) m.ba
 
 pub returns-then-not-is_held : goal.returns-then-not-is_held
 returns-then-not-is_held c = let m = machine c.args.words.now in every_fails (held_in m) m.backings 256 (backings_length _) _ c.loop-f.invariant c.loop-f-test.true no_backing _ c.backing_at-b.ensures (tallied_test m c.tally-counts.result c.tally-counts.ensures.tallied c.loop-f.f c.loop-f-test.true c.backing_at-b.result c.is_held.result _ c.is_held.ensures c.if-not-is_held.true) ∙ held_rows_are m
-
-pub overflow_add-f : goal.overflow_add-f
-overflow_add-f c = let h = c.loop-f-test.true in omega arith
-
-pub loop-f-smaller : goal.loop-f-smaller
-loop-f-smaller c = let h = c.loop-f-test.true in omega arith
 
 pub loop-f-preserved : goal.loop-f-preserved
 loop-f-preserved c = let m = machine c.args.words.now in every_more (held_in m) m.backings 256 (backings_length _) _ c.loop-f.invariant c.loop-f-test.true no_backing _ c.backing_at-b.ensures (tallied_test m c.tally-counts.result c.tally-counts.ensures.tallied c.loop-f.f c.loop-f-test.true c.backing_at-b.result c.is_held.result _ c.is_held.ensures c.if-not-is_held.false)

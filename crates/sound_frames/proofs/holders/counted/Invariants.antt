@@ -1,5 +1,4 @@
 -- `counted` tells R3, and that free rows have no holders. The invariant: the rows passed do.
-use Prim.Native.Nat.{◌-◌}
 use Rattle.model.specs.Layout.{machine}
 use Rattle.laws.specs.Loops.{Every}
 use Rattle.sound_frames.specs.TallyLaws.{held_in}
@@ -7,6 +6,3 @@ use Rattle.sound_frames.proofs.holders.counted.Given as goal
 
 abbrev pub invariant-loop-f : goal.invariant-loop-f
 invariant-loop-f l = Every (held_in (machine l.words)) (machine l.words).backings 256 l.f
-
-abbrev pub decreases-loop-f : goal.decreases-loop-f
-decreases-loop-f l = 256 - l.f

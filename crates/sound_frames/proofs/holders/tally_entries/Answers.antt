@@ -5,37 +5,28 @@ use Rattle.sound_frames.specs.TallyLaws.{counts_few, counts_more, counts_skip, c
 use Rattle.sound_frames.proofs.holders.tally_entries.Goals as goal
 
 pub loop-k-init : goal.loop-k-init
-loop-k-init c = (omega arith, c.requires.counts)
-
-pub overflow_add-k : goal.overflow_add-k
-overflow_add-k c = let h = c.loop-k-test.true in omega arith
-
-pub loop-k-smaller-then-frame-eq-FRAMES : goal.loop-k-smaller-then-frame-eq-FRAMES
-loop-k-smaller-then-frame-eq-FRAMES c = let h = c.loop-k-test.true in omega arith
+loop-k-init c = c.requires.counts
 
 pub loop-k-preserved-then-frame-eq-FRAMES : goal.loop-k-preserved-then-frame-eq-FRAMES
-loop-k-preserved-then-frame-eq-FRAMES c = let h = c.loop-k-test.true in (omega arith, counts_skip _ _ _ c.loop-k.invariant.1 (omega arith) c.by_entry-h.result (held_entry c.args.words.now c.loop-k.k _ c.loop-k-test.true c.entry_at-entry.result c.entry_at-entry.ensures c.by_entry-h.ensures.value) c.if-frame-eq-FRAMES.true)
+loop-k-preserved-then-frame-eq-FRAMES c = let h = c.loop-k-test.true in counts_skip _ _ _ c.loop-k.invariant (omega arith) c.by_entry-h.result (held_entry c.args.words.now c.loop-k.k _ c.loop-k-test.true c.entry_at-entry.result c.entry_at-entry.ensures c.by_entry-h.ensures.value) c.if-frame-eq-FRAMES.true
 
 pub offset_bounds-counts-frame : goal.offset_bounds-counts-frame
-offset_bounds-counts-frame c = let l = c.by_entry-h.ensures.frame_bound in let n = c.if-frame-eq-FRAMES.false in let s = c.loop-k.invariant.1.sized in omega arith
+offset_bounds-counts-frame c = let l = c.by_entry-h.ensures.frame_bound in let n = c.if-frame-eq-FRAMES.false in let s = c.loop-k.invariant.sized in omega arith
 
 pub bounds-counts-frame : goal.bounds-counts-frame
-bounds-counts-frame c = let l = c.by_entry-h.ensures.frame_bound in let n = c.if-frame-eq-FRAMES.false in let s = c.loop-k.invariant.1.sized in omega arith
+bounds-counts-frame c = let l = c.by_entry-h.ensures.frame_bound in let n = c.if-frame-eq-FRAMES.false in let s = c.loop-k.invariant.sized in omega arith
 
 pub overflow_add-counts : goal.overflow_add-counts
-overflow_add-counts c = let l = c.by_entry-h.ensures.frame_bound in let n = c.if-frame-eq-FRAMES.false in let few = counts_few _ _ _ c.loop-k.invariant.1 c.by_entry-h.result.frame (omega arith) in let h = c.loop-k-test.true in omega arith
+overflow_add-counts c = let l = c.by_entry-h.ensures.frame_bound in let n = c.if-frame-eq-FRAMES.false in let few = counts_few _ _ _ c.loop-k.invariant c.by_entry-h.result.frame (omega arith) in let h = c.loop-k-test.true in omega arith
 
 pub bounds-counts-frame-in-loop-k : goal.bounds-counts-frame-in-loop-k
-bounds-counts-frame-in-loop-k c = let l = c.by_entry-h.ensures.frame_bound in let n = c.if-frame-eq-FRAMES.false in let s = c.loop-k.invariant.1.sized in omega arith
-
-pub loop-k-smaller : goal.loop-k-smaller
-loop-k-smaller c = let h = c.loop-k-test.true in omega arith
+bounds-counts-frame-in-loop-k c = let l = c.by_entry-h.ensures.frame_bound in let n = c.if-frame-eq-FRAMES.false in let s = c.loop-k.invariant.sized in omega arith
 
 pub loop-k-preserved : goal.loop-k-preserved
-loop-k-preserved c = let l = c.by_entry-h.ensures.frame_bound in let n = c.if-frame-eq-FRAMES.false in let h = c.loop-k-test.true in (omega arith, counts_more _ _ _ c.loop-k.invariant.1 (omega arith) c.by_entry-h.result (held_entry c.args.words.now c.loop-k.k _ c.loop-k-test.true c.entry_at-entry.result c.entry_at-entry.ensures c.by_entry-h.ensures.value) (omega arith))
+loop-k-preserved c = let l = c.by_entry-h.ensures.frame_bound in let n = c.if-frame-eq-FRAMES.false in let h = c.loop-k-test.true in counts_more _ _ _ c.loop-k.invariant (omega arith) c.by_entry-h.result (held_entry c.args.words.now c.loop-k.k _ c.loop-k-test.true c.entry_at-entry.result c.entry_at-entry.ensures c.by_entry-h.ensures.value) (omega arith)
 
 pub shape_of-counts : goal.shape_of-counts
-shape_of-counts c = let a = c.loop-k.invariant.1.sized in let b = c.requires.counts.sized in omega arith
+shape_of-counts c = let a = c.loop-k.invariant.sized in let b = c.requires.counts.sized in omega arith
 
 pub returns : goal.returns
-returns c = let h = c.loop-k-test.false in let l = c.loop-k.invariant.0 in counts_to _ _ _ c.loop-k.invariant.1 512 (omega arith)
+returns c = let h = c.loop-k-test.false in counts_to _ _ _ c.loop-k.invariant 512 (omega arith)

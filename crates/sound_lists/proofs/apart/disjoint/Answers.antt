@@ -1,23 +1,22 @@
--- The answers for `disjoint`.
-use mathlib.Core.Path.{refl, sym, ◌∙◌}
+-- The answer for `disjoint`: the test of every process.
+use mathlib.Core.Path.{◌≡◌, refl}
+use mathlib.Core.Bool.{Bool, true, false}
+use lib.ListN.{get_or}
+use Prim.Native.Nat.{ℕ}
+use borrow.Author.Rules.{rules}
+use borrow.Author.Tests.{tests}
+use Rattle.std.proofs.lemmas.Iterator.{cases_from_all, YieldsList-from_range}
 use Rattle.model.specs.Layout.{machine}
 use Rattle.model.specs.Machine.{no_process}
-use Rattle.laws.specs.LoopLaws.{every_first, every_fails, every_more, every_all}
-use Rattle.lookup.specs.LookupsLaws.{processes_length}
 use Rattle.model.specs.SoundTest.{r1b}
+use Rattle.lookup.specs.LookupsLaws.{processes_length}
 use Rattle.sound_lists.specs.ApartLaws.{disjointb}
+use Rattle.sound_lists.specs.EachLaws.{every_row}
 use Rattle.sound_lists.proofs.apart.disjoint.Goals as goal
-
-pub loop-i-init : goal.loop-i-init
-loop-i-init c = let w = c.args.words.now in every_first (disjointb (machine w)) (machine w).processes 8 (processes_length w)
-
-pub returns-then-not-process_is_disjoint : goal.returns-then-not-process_is_disjoint
-unfolding r1b
-returns-then-not-process_is_disjoint c = let w = c.args.words.now in every_fails (disjointb (machine w)) (machine w).processes 8 (processes_length w) _ c.loop-i.invariant c.loop-i-test.true no_process _ refl (sym c.process_is_disjoint.ensures ∙ c.if-not-process_is_disjoint.true)
-
-pub loop-i-preserved : goal.loop-i-preserved
-loop-i-preserved c = let w = c.args.words.now in every_more (disjointb (machine w)) (machine w).processes 8 (processes_length w) _ c.loop-i.invariant c.loop-i-test.true no_process _ refl (sym c.process_is_disjoint.ensures ∙ c.if-not-process_is_disjoint.false)
 
 pub returns : goal.returns
 unfolding r1b
-returns c = let w = c.args.words.now in every_all (disjointb (machine w)) (machine w).processes 8 (processes_length w) _ c.loop-i.invariant c.loop-i-test.false
+returns c =
+    let m = machine c.args.words.now in
+    let t : ℕ → Bool = λ i. disjointb m i (get_or m.processes i no_process) in
+    every_row (disjointb m) m.processes no_process 8 (processes_length c.args.words.now) t (λ i h. refl) _ (cases_from_all _ _ _ (λ i. t i ≡ true) (λ i. t i ≡ false) c.all.ensures.ran (YieldsList-from_range 0 8 8 refl refl) (λ x q k. search (rules, tests)) (λ x q k. search (rules, tests)))

@@ -1,5 +1,4 @@
 -- `segments_rise` keeps the last region's segment. The invariant: the segments that are passed rise up to it.
-use Prim.Native.Nat.{◌-◌}
 use Rattle.model.specs.Layout.{machine}
 use Rattle.model.specs.Lookup.{regions_of}
 use Rattle.sound_lists.specs.AscendingLaws.{Ascends}
@@ -7,6 +6,3 @@ use Rattle.sound_lists.proofs.apart.segments_rise.Given as goal
 
 abbrev pub invariant-loop-i : goal.invariant-loop-i
 invariant-loop-i l = Ascends (regions_of (machine l.words) l.process) l.start l.size l.i
-
-abbrev pub decreases-loop-i : goal.decreases-loop-i
-decreases-loop-i l = 64 - l.i

@@ -1,20 +1,20 @@
--- The answers for `ordered`.
-use mathlib.Core.Path.{refl, sym, ◌∙◌}
+-- The answer for `ordered`: the test of every process.
+use mathlib.Core.Path.{◌≡◌, refl}
+use mathlib.Core.Bool.{Bool, true, false}
+use lib.ListN.{get_or}
+use Prim.Native.Nat.{ℕ}
+use borrow.Author.Rules.{rules}
+use borrow.Author.Tests.{tests}
+use Rattle.std.proofs.lemmas.Iterator.{cases_from_all, YieldsList-from_range}
 use Rattle.model.specs.Layout.{machine}
 use Rattle.model.specs.Machine.{no_process}
 use Rattle.model.specs.SoundTest.{orderedb}
-use Rattle.laws.specs.LoopLaws.{every_first, every_fails, every_more, every_all}
 use Rattle.lookup.specs.LookupsLaws.{processes_length}
+use Rattle.sound_lists.specs.EachLaws.{every_row}
 use Rattle.sound_lists.proofs.lists.ordered.Goals as goal
 
-pub loop-i-init : goal.loop-i-init
-loop-i-init c = let w = c.args.words.now in every_first (orderedb (machine w)) (machine w).processes 8 (processes_length w)
-
-pub returns-then-not-process_is_ordered : goal.returns-then-not-process_is_ordered
-returns-then-not-process_is_ordered c = let w = c.args.words.now in every_fails (orderedb (machine w)) (machine w).processes 8 (processes_length w) _ c.loop-i.invariant c.loop-i-test.true no_process _ refl (sym c.process_is_ordered.ensures ∙ c.if-not-process_is_ordered.true)
-
-pub loop-i-preserved : goal.loop-i-preserved
-loop-i-preserved c = let w = c.args.words.now in every_more (orderedb (machine w)) (machine w).processes 8 (processes_length w) _ c.loop-i.invariant c.loop-i-test.true no_process _ refl (sym c.process_is_ordered.ensures ∙ c.if-not-process_is_ordered.false)
-
 pub returns : goal.returns
-returns c = let w = c.args.words.now in every_all (orderedb (machine w)) (machine w).processes 8 (processes_length w) _ c.loop-i.invariant c.loop-i-test.false
+returns c =
+    let m = machine c.args.words.now in
+    let t : ℕ → Bool = λ i. orderedb m i (get_or m.processes i no_process) in
+    every_row (orderedb m) m.processes no_process 8 (processes_length c.args.words.now) t (λ i h. refl) _ (cases_from_all _ _ _ (λ i. t i ≡ true) (λ i. t i ≡ false) c.all.ensures.ran (YieldsList-from_range 0 8 8 refl refl) (λ x q k. search (rules, tests)) (λ x q k. search (rules, tests)))

@@ -1,7 +1,6 @@
 -- `run_fits` goes through the rows of one home. The invariant: the rows that are left give the same answer.
 use mathlib.Core.Path.{◌≡◌}
 use mathlib.Core.Bool.{true}
-use Prim.Native.Nat.{◌-◌, ◌≤◌}
 use Rattle.model.specs.Layout.{machine}
 use Rattle.model.specs.Lookup.{is_attached}
 use Rattle.sound_pages.specs.Laid.{Laid}
@@ -10,7 +9,4 @@ use Rattle.sound_pages.specs.MappedRows.{FitFrom}
 use Rattle.sound_pages.proofs.mapped.run_fits.Given as goal
 
 abbrev pub invariant-loop-i : goal.invariant-loop-i
-invariant-loop-i l = (l.from ≤ l.i) × (Laid (machine l.words) → Seen (machine l.words) l.process 512 l.marks → is_attached (machine l.words) l.process l.slot ≡ true → FitFrom (machine l.words) l.process l.from → FitFrom (machine l.words) l.process l.i)
-
-abbrev pub decreases-loop-i : goal.decreases-loop-i
-decreases-loop-i l = l.n - l.i
+invariant-loop-i l = Laid (machine l.words) → Seen (machine l.words) l.process 512 l.marks → is_attached (machine l.words) l.process l.slot ≡ true → FitFrom (machine l.words) l.process l.from → FitFrom (machine l.words) l.process l.i

@@ -16,9 +16,6 @@ offset_bounds-pasts-process c = let l = c.process_of-process.ensures.most in ome
 pub bounds-pasts-process : goal.bounds-pasts-process
 bounds-pasts-process c = let l = c.process_of-process.ensures.most in let n = c.if-process-eq-PROCESSES.false in let s = c.loop-i.invariant.0.many in omega arith
 
-pub loop-i-smaller-then-process-last : goal.loop-i-smaller-then-process-last
-loop-i-smaller-then-process-last c = let h = c.loop-i-test.true in omega arith
-
 pub loop-i-preserved-then-process-last : goal.loop-i-preserved-then-process-last
 loop-i-preserved-then-process-last c = let l = c.process_of-process.ensures.most in let n = c.if-process-eq-PROCESSES.false in (spans_again (machine c.args.words.now) _ _ c.loop-i.i c.loop-i.invariant.0 c.loop-i-test.true c.entry_at-entry.result c.entry_at-entry.ensures c.process_of-process.result c.process_of-process.ensures (omega arith) c.loop-i.last c.loop-i.invariant.1 c.if-process-last.true, c.loop-i.invariant.1)
 
@@ -28,9 +25,6 @@ offset_bounds-firsts-process c = let l = c.process_of-process.ensures.most in om
 pub bounds-firsts-process : goal.bounds-firsts-process
 bounds-firsts-process c = let l = c.process_of-process.ensures.most in let n = c.if-process-eq-PROCESSES.false in let s = c.loop-i.invariant.0.few in omega arith
 
-pub loop-i-smaller-then-firsts-process-ne-ENTRIES : goal.loop-i-smaller-then-firsts-process-ne-ENTRIES
-loop-i-smaller-then-firsts-process-ne-ENTRIES c = let h = c.loop-i-test.true in omega arith
-
 pub loop-i-preserved-then-firsts-process-ne-ENTRIES : goal.loop-i-preserved-then-firsts-process-ne-ENTRIES
 loop-i-preserved-then-firsts-process-ne-ENTRIES c = let l = c.process_of-process.ensures.most in let n = c.if-process-eq-PROCESSES.false in (spans_more (machine c.args.words.now) _ _ c.loop-i.i c.loop-i.invariant.0 c.loop-i-test.true c.entry_at-entry.result c.entry_at-entry.ensures c.process_of-process.result c.process_of-process.ensures (omega arith) c.if-firsts-process-ne-ENTRIES.true, λ k. c.if-firsts-process-ne-ENTRIES.true)
 
@@ -39,9 +33,6 @@ offset_bounds-firsts-process-in-loop-i c = let l = c.process_of-process.ensures.
 
 pub bounds-firsts-process-in-loop-i : goal.bounds-firsts-process-in-loop-i
 bounds-firsts-process-in-loop-i c = let l = c.process_of-process.ensures.most in let n = c.if-process-eq-PROCESSES.false in let s = c.loop-i.invariant.0.few in omega arith
-
-pub loop-i-smaller : goal.loop-i-smaller
-loop-i-smaller c = let h = c.loop-i-test.true in omega arith
 
 pub loop-i-preserved : goal.loop-i-preserved
 loop-i-preserved c = let l = c.process_of-process.ensures.most in let n = c.if-process-eq-PROCESSES.false in (spans_first (machine c.args.words.now) _ _ c.loop-i.i c.loop-i.invariant.0 c.loop-i-test.true c.entry_at-entry.result c.entry_at-entry.ensures c.process_of-process.result c.process_of-process.ensures (omega arith) c.if-firsts-process-ne-ENTRIES.false, first_begun (machine c.args.words.now) _ _ c.loop-i.i c.loop-i.invariant.0 c.loop-i-test.true c.entry_at-entry.result c.entry_at-entry.ensures c.process_of-process.result c.process_of-process.ensures (omega arith))

@@ -1,5 +1,4 @@
 -- `span_entries` keeps the first and the last entry of each process. The invariant: those of the entries before i.
-use Prim.Native.Nat.{◌-◌}
 use Rattle.model.specs.Layout.{machine}
 use Rattle.sound_pages.specs.MappedSpans.{Spans}
 use Rattle.sound_pages.specs.MappedSpansLaws.{Begun}
@@ -7,6 +6,3 @@ use Rattle.sound_pages.proofs.mapped.span_entries.Given as goal
 
 abbrev pub invariant-loop-i : goal.invariant-loop-i
 invariant-loop-i l = Spans (machine l.words) l.firsts l.pasts l.i × Begun l.firsts l.last
-
-abbrev pub decreases-loop-i : goal.decreases-loop-i
-decreases-loop-i l = 512 - l.i

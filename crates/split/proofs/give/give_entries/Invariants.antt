@@ -1,10 +1,6 @@
 -- `give_entries` goes through the entries. The invariant: the first i are given.
-use Prim.Native.Nat.{◌-◌}
 use Rattle.split.specs.GivenEntriesLaws.{Given}
 use Rattle.split.proofs.give.give_entries.Given as goal
 
 abbrev pub invariant-loop-i : goal.invariant-loop-i
 invariant-loop-i l = Given l.initial.words l.row l.at l.new l.words l.i
-
-abbrev pub decreases-loop-i : goal.decreases-loop-i
-decreases-loop-i l = 512 - l.i

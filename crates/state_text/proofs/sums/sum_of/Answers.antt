@@ -1,15 +1,12 @@
 -- The answers for `sum_of`.
-use Rattle.std.proofs.Common.{refl, ◌∙◌, arith}
+use Rattle.std.proofs.Common.{refl, ◌∙◌}
 use Rattle.state_text.specs.SumLaws.{sum_small, sum_more, sum_all}
 use Rattle.state_text.proofs.sums.sum_of.Goals as goal
 
-pub loop-i-init : goal.loop-i-init
-loop-i-init c = (omega arith, omega arith, refl)
-
-pub loop-i-preserved : goal.loop-i-preserved
-loop-i-preserved c =
-    let a = c.args in
-    (omega arith, sum_small _, sum_more c.loop-i.sum c.wide.result a.bytes.now c.loop-i.i c.loop-i-test.true c.wide.ensures.value ∙ c.loop-i.invariant.2)
+pub loop-byte-preserved : goal.loop-byte-preserved
+loop-byte-preserved c =
+    let l = c.loop-byte in
+    record { fits = sum_small _; same = sum_more l.sum _ c.args.bytes.now l.byte-index c.loop-byte-test.true refl ∙ l.invariant.same }
 
 pub returns : goal.returns
-returns c = sum_all c.loop-i.sum c.args.bytes.now c.loop-i.i c.loop-i-test.false c.loop-i.invariant.2
+returns c = sum_all c.loop-byte.sum c.args.bytes.now c.loop-byte.byte-index c.loop-byte-test.false c.loop-byte.invariant.same

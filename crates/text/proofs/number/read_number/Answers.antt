@@ -1,16 +1,11 @@
--- `number::read_number` meets its contract, one law for each way through it.
-use Rattle.std.proofs.Common.{arith}
-use Rattle.text.specs.NumeralLaws.{short, no_zero, no_x, hexadecimal}
+-- `number::read_number` meets its contract: with `0x` in front and without.
+use Rattle.text.specs.NumeralLaws.{hexadecimal, decimal}
 use Rattle.text.proofs.number.read_number.Goals as goal
 
-pub returns-then-word-lt2 : goal.returns-then-word-lt2
-returns-then-word-lt2 c = short c.read_digits.result c.args.word.now c.if-word-lt2.true c.read_digits.ensures
+pub returns-in-Some : goal.returns-in-Some
+returns-in-Some c =
+    let p = c.in-Some.ensures.cases in
+    hexadecimal _ _ p.0 _ p.1 c.read_digits.ensures
 
-pub returns-then-word-ne48 : goal.returns-then-word-ne48
-returns-then-word-ne48 c = no_zero c.read_digits-then-word-ne48.result c.args.word.now (omega arith) c.if-word-ne48.true c.read_digits-then-word-ne48.ensures
-
-pub returns-then-word-ne120 : goal.returns-then-word-ne120
-returns-then-word-ne120 c = no_x c.read_digits-then-word-ne120.result c.args.word.now (omega arith) c.if-word-ne48.false c.if-word-ne120.true c.read_digits-then-word-ne120.ensures
-
-pub returns : goal.returns
-returns c = hexadecimal c.read_digits-2.result c.args.word.now (omega arith) c.if-word-ne48.false c.if-word-ne120.false c.read_digits-2.ensures
+pub returns-in-None : goal.returns-in-None
+returns-in-None c = decimal _ _ c.in-None.ensures.cases c.read_digits-in-None.ensures

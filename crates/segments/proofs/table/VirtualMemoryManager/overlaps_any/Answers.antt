@@ -1,8 +1,8 @@
 -- `VirtualMemoryManager::overlaps_any` is overlapsb: one law a way.
 use native.Mathlib.Omega.{arith}
-use mathlib.Core.Path.{refl}
+use mathlib.Core.Path.{refl, ◌∙◌}
 use Rattle.segment.specs.FormLaws.{form_last}
-use Rattle.segments.specs.CallLaws.{any_empty, any_in, any_none, checked_most, checked_formed}
+use Rattle.segments.specs.CallLaws.{any_empty, any_some, checked_most, checked_formed}
 use Rattle.segments.proofs.table.VirtualMemoryManager.overlaps_any.Goals as goal
 
 pub returns-then-len-eq0 : goal.returns-then-len-eq0
@@ -17,8 +17,5 @@ overflow_add-segment c = let l = form_last c.args.segment (omega arith) (checked
 pub find_overlapping_at-requires : goal.find_overlapping_at-requires
 find_overlapping_at-requires c = let m = checked_most c.args.self c.args.segment _ refl c.requires in let w = c.words-words.ensures.0 in omega arith
 
-pub returns-in-In : goal.returns-in-In
-returns-in-In c = any_in c.args.self c.args.segment c.if-len-eq0.false _ c.words-words.ensures.1 _ c.find_overlapping_at.ensures _ c.in-In.is
-
-pub returns-in_default : goal.returns-in_default
-returns-in_default c = any_none c.args.self c.args.segment c.if-len-eq0.false _ c.words-words.ensures.1 _ c.find_overlapping_at.ensures c.in_default.is
+pub returns : goal.returns
+returns c = c.is_some.ensures ∙ any_some c.args.self c.args.segment c.if-len-eq0.false _ c.words-words.ensures.1 _ c.find_overlapping_at.ensures

@@ -13,10 +13,10 @@ pub returns-in_default : goal.returns-in_default
 returns-in_default c = reserve_no_space _ _ _ c.is_sound.ensures c.if-not-is_sound.false _ c.lowest_free.ensures c.in_default.is
 
 pub returns-then-self-ge64 : goal.returns-then-self-ge64
-returns-then-self-ge64 c = reserve_table_full _ _ _ c.is_sound.ensures c.if-not-is_sound.false _ c.lowest_free.ensures _ _ c.in-Free.is c.if-self-ge64.true
+returns-then-self-ge64 c = reserve_table_full _ _ _ c.is_sound.ensures c.if-not-is_sound.false _ c.lowest_free.ensures _ _ c.in-Some.is c.if-self-ge64.true
 
 pub insert-requires : goal.insert-requires
 insert-requires c = c.if-self-ge64.false
 
 pub returns : goal.returns
-returns c = reserve_done _ _ _ c.is_sound.ensures c.if-not-is_sound.false _ c.lowest_free.ensures _ _ c.in-Free.is c.if-self-ge64.false _ c.insert.ensures
+returns c = reserve_done _ _ _ c.is_sound.ensures c.if-not-is_sound.false _ c.lowest_free.ensures _ _ c.in-Some.is c.if-self-ge64.false _ c.insert.ensures
