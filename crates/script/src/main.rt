@@ -24,6 +24,7 @@ fn main(rt: HostRuntime) -> io::Result<()> {
     let mut starts = memory::starts();
     let mut session = Session::new();
     let mut turns = u64::MAX;
+    // No `for`: the session says when the run ends, and the turns are counted only because nothing says that input does.
     while 0 < turns && session.output.on {
         session = session.filled(&mut reader, &mut input, &mut writer, &out)?;
         session = session.gathered(&input, &mut line);

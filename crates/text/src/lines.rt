@@ -5,7 +5,7 @@ ghost use Rattle.text.specs.Lines.{line_length, without_return, Gathered};
 use crate::write::put;
 
 // How much of a line the buffer holds, and whether the line is longer than the buffer.
-// Borrowing the buffer is no plainer, because the session that holds this is passed by value beside its buffers.
+// Borrowing the buffer is no plainer: the program's `Session`, which has this as a field, goes by value beside its buffers.
 #[derive(Clone, Copy)]
 pub struct Held {
     pub len: usize,
