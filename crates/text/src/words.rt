@@ -42,8 +42,8 @@ fn blanks(line: &[u8], at: usize) -> usize
     ensures value { result ≡ blanks (drop at line.now) }
     ensures upper_bound { result ≤ length line.now - at }
 {
-    line.iter()
-        .skip(at)
+    rest(line, at)
+        .iter()
         .take_while(|&&byte| is_blank(byte))
         .count()
 }
@@ -54,10 +54,18 @@ fn letters(line: &[u8], at: usize) -> usize
     ensures value { result ≡ letters (drop at line.now) }
     ensures upper_bound { result ≤ length line.now - at }
 {
-    line.iter()
-        .skip(at)
+    rest(line, at)
+        .iter()
         .take_while(|&&byte| !is_blank(byte))
         .count()
+}
+
+// The line from `at` on; nothing where it ends before. No `skip`: that steps over the bytes before `at`, so that a walk over the words of
+// a line would cost the square of its length.
+fn rest(line: &[u8], at: usize) -> &[u8]
+    ensures { result.now ≡ drop at line.now }
+{
+    if at < line.len() { &line[at..] } else { &[] }
 }
 
 fn is_blank(byte: u8) -> bool
