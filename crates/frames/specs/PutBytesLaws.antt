@@ -1,11 +1,9 @@
--- Laws of bytes put from a place on: all at once, one after the other in a loop, one run after another, and the length.
+-- Laws of bytes put from a place on: one after the other in a loop, one run after another, and the length.
 use Rattle.std.specs.Prelude.{◌≡◌, refl, List, [], ◌++◌, ℕ, zero, suc, ◌+◌, ◌-◌, ◌≤◌, take, drop, ◌<◌, get_or, set}
-use Rattle.std.proofs.Common.{sym, ap, ◌∙◌, append_assoc, add-zero, take-append-drop, add_assoc, length-append, length-take, length-drop, take_at, drop_at, drop-drop, zero-le, add-one, length-set}
+use Rattle.std.proofs.Common.{sym, ap, ◌∙◌, append_assoc, add-zero, take-append-drop, add_assoc, length-append, length-take, length-drop, get_or-take, get_or-drop, take_at, drop_at, drop-drop, zero-le, add-one, length-set}
 use native.Mathlib.Omega.{arith}
 use Rattle.std.proofs.Math.ListN.{length}
 use Rattle.std.proofs.Math.Seq.{paste, take-length, paste-zero, paste-suc}
-use borrow.Rule.Slice.PartMut.{put_mid}
-use Rattle.std.proofs.lemmas.Slice.{put_mid-paste}
 use Rattle.frames.specs.PutBytes.{put_at}
 
 -- the list after i of the count new bytes were put: what a loop that puts them keeps
@@ -28,22 +26,9 @@ module _ (l : List ℕ) (at : ℕ) (new : List ℕ) (count : ℕ) (long : length
       let all : i ≡ length new = omega arith in
       p.2 ∙ rw (all, take-length new) (append_assoc (take at l) new (drop (at + length new) l))
 
--- all of the bytes put into the part that they are put at
-mid_put : (l : List ℕ) (at k : ℕ) (new : List ℕ) → k ≡ length new → put_mid at k l new ≡ put_at l at new
-unfolding put_at
-mid_put l at k new e = put_mid-paste at k l new new k refl refl e ∙ rw (e, take-length new) (append_assoc (take at l) new (drop (at + length new) l))
-
-pub part_put : (l : List ℕ) (at k count : ℕ) (part new : List ℕ) → k ≡ count → part ≡ new → length new ≡ count → put_mid at k l part ≡ put_at l at new
-part_put l at k count part new e p n = ap (put_mid at k l) p ∙ mid_put l at k new (e ∙ sym n)
-
 pub no_bytes : (l : List ℕ) (at : ℕ) → l ≡ put_at l at []
 unfolding put_at
 no_bytes l at = sym (rw add-zero (take-append-drop at l))
-
--- of no bytes nothing is put
-pub none_put : (l : List ℕ) (at count : ℕ) (b : List ℕ) → count ≤ 0 → l ≡ put_at l at (take count b)
-none_put l at zero b h = no_bytes l at
-none_put l at (suc n) b h = absurd (omega arith)
 
 pub length_put_at : (l : List ℕ) (at : ℕ) (new : List ℕ) → at + length new ≤ length l → length (put_at l at new) ≡ length l
 unfolding put_at
@@ -52,6 +37,9 @@ length_put_at l at new h = simp (length-append, length-take, length-drop) (omega
 -- a part of a list: how long, and its bytes
 pub length_part : (l : List ℕ) (start count : ℕ) → count ≤ length l - start → length (take count (drop start l)) ≡ count
 length_part l start count h = simp (length-take, length-drop) (omega arith)
+
+pub part_byte : (l : List ℕ) (start count i : ℕ) → i < count → get_or l (start + i) 0 ≡ get_or (take count (drop start l)) i 0
+part_byte l start count i h = sym (get_or-take count (drop start l) i 0 h ∙ get_or-drop start l i 0)
 
 -- bytes copied within one list
 pub within_put : (l : List ℕ) (start at count : ℕ) → start + count ≤ length l → paste l at (drop start l) (start + count - start) ≡ put_at l at (take count (drop start l))

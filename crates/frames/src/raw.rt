@@ -19,9 +19,10 @@ pub fn put_bytes(to: &mut [u8], at: usize, from: &[u8], start: usize, count: usi
     requires count_in_bounds_2 { count ≤ length from.now - start }
     ensures { to.new ≡ put_at to.old at (take count (drop start from.now)) }
 {
-    // Of no bytes, start may lie past the other slice's end.
-    if count > 0 {
-        to[at..at + count].copy_from_slice(&from[start..start + count]);
+    // No `copy_from_slice`: of a length that is not known the compiler makes a call of `memmove`, which the archives for C would then need
+    // from outside.
+    for k in 0..count {
+        to[at + k] = from[start + k];
     }
 }
 

@@ -1,13 +1,17 @@
--- `put_bytes`: the part gets the bytes; of none nothing changes.
-use Rattle.std.proofs.Common.{◌≡◌, ap, ◌∙◌, arith, ℕ, ◌+◌, ◌-◌, take, drop}
-use Rattle.frames.specs.PutBytesLaws.{part_put, none_put, length_part}
+-- The answers for `put_bytes`.
+use lib.ListN.{take, drop}
+use Rattle.frames.specs.PutBytesLaws.{puts_first, puts_more, puts_all, length_part, part_byte}
 use Rattle.frames.proofs.raw.put_bytes.Goals as goal
 
-pub returns-then-count-gt0 : goal.returns-then-count-gt0
-returns-then-count-gt0 c =
-    let given = c.args in
-    let some : given.start + given.count - given.start ≡ given.count = omega arith in
-    part_put given.to.now given.at _ given.count c.copy_from_slice.new.self (take given.count (drop given.start given.from.now)) (omega arith) (c.copy_from_slice.ensures.after ∙ ap (λ (n : ℕ). take n (drop given.start given.from.now)) some) (length_part given.from.now given.start given.count c.requires.count_in_bounds_2)
+pub loop-k-init : goal.loop-k-init
+loop-k-init c = puts_first c.args.to.now c.args.at (take c.args.count (drop c.args.start c.args.from.now)) c.args.count
 
-pub returns-else-count-gt0 : goal.returns-else-count-gt0
-returns-else-count-gt0 c = none_put c.args.to.now c.args.at c.args.count (drop c.args.start c.args.from.now) c.if-count-gt0.false
+pub loop-k-preserved : goal.loop-k-preserved
+loop-k-preserved c =
+    let more = c.loop-k-test.true in
+    puts_more c.args.to.now c.args.at (take c.args.count (drop c.args.start c.args.from.now)) c.args.count (length_part c.args.from.now c.args.start c.args.count c.requires.count_in_bounds_2) c.loop-k.k c.loop-k.to _
+    c.requires.count_in_bounds more (part_byte c.args.from.now c.args.start c.args.count c.loop-k.k more) c.loop-k.invariant
+
+pub returns : goal.returns
+returns c =
+    puts_all c.args.to.now c.args.at (take c.args.count (drop c.args.start c.args.from.now)) c.args.count (length_part c.args.from.now c.args.start c.args.count c.requires.count_in_bounds_2) c.loop-k.k c.loop-k.to c.loop-k-test.false c.loop-k.invariant
