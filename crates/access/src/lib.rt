@@ -47,7 +47,9 @@ fn granted_byte(
         return Err(Refusal::BadAddress);
     }
     let page = Page::containing_address(addr);
-    let row = translate(words, process as usize, page).ok_or(Refusal::Denied)?;
+    let Some(row) = translate(words, process as usize, page) else {
+        return Err(Refusal::Denied);
+    };
     if !is_allowed(row.flags, write) {
         return Err(Refusal::Denied);
     }

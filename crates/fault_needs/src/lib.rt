@@ -59,10 +59,10 @@ fn entry_full(words: &[u64], process: usize, slot: usize, page: Page) -> bool
     requires slot_bound { slot < 64 }
     ensures { result ≡ entry_full (machine words.now) (backing (machine words.now) process slot page.0) }
 {
-    if entry_for(words, (process * SLOTS + slot) as u64, page).is_some() {
-        return false;
-    }
-    no_entry_left(words)
+    let Some(_) = entry_for(words, (process * SLOTS + slot) as u64, page) else {
+        return no_entry_left(words);
+    };
+    false
 }
 
 // What a copy needs: a frame, room for the page if it is not mapped, an entry if it has none.

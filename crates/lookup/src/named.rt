@@ -33,5 +33,8 @@ pub fn region_named(words: &[u64], process: u64, addr: VirtAddr) -> Result<usize
     if !addr.is_user() {
         return Err(Refusal::BadAddress);
     }
-    region_for(words, process as usize, addr).ok_or(Refusal::NoRegion)
+    let Some(slot) = region_for(words, process as usize, addr) else {
+        return Err(Refusal::NoRegion);
+    };
+    Ok(slot)
 }

@@ -97,7 +97,9 @@ pub fn unpin_core(words: &mut [u64], process: u64, addr: VirtAddr) -> Result<(),
     if !addr.is_user() {
         return Err(Refusal::BadAddress);
     }
-    let slot = any_region_for(&words[..], process as usize, addr).ok_or(Refusal::NoRegion)?;
+    let Some(slot) = any_region_for(&words[..], process as usize, addr) else {
+        return Err(Refusal::NoRegion);
+    };
     let region = region_in(&words[..], process as usize, slot);
     if region.pins == 0 {
         return Err(Refusal::NoRegion);

@@ -127,7 +127,9 @@ fn protectable(words: &[u64], process: u64, addr: VirtAddr, flags: u64) -> Resul
     if PageTableFlags::from_bits(flags).is_none() {
         return Err(Refusal::BadFlags);
     }
-    let slot = region_for(words, process as usize, addr).ok_or(Refusal::NoRegion)?;
+    let Some(slot) = region_for(words, process as usize, addr) else {
+        return Err(Refusal::NoRegion);
+    };
     let region = region_in(words, process as usize, slot);
     if region.kind == SHARED {
         return Err(Refusal::UnsupportedRegion);

@@ -1,7 +1,4 @@
 -- `granted_byte`: one law for each test that decides.
-use Rattle.std.proofs.lemmas.Result.{err_from_is_err_and}
-use Rattle.answers.specs.declared.Refusal.TheVariants.{Denied}
-use Rattle.std.specs.Prelude.{◌≡◌}
 use mathlib.Core.Path.{sym, ◌∙◌}
 use native.Mathlib.Omega.{arith}
 use Rattle.lookup.specs.FirstOfLaws.{open_small}
@@ -18,17 +15,14 @@ returns-then-not-is_user c = access_address _ _ _ _ (sym c.is_open.ensures ∙ c
 pub translate-requires : goal.translate-requires
 translate-requires c = let small = open_small _ _ (sym c.is_open.ensures ∙ c.if-not-is_open.false) in record { words_len = search rules; process_bound = search rules }
 
-pub returns-in_err-row : goal.returns-in_err-row
-returns-in_err-row c =
-    let p = err_from_is_err_and c.from_residual.result c.from_residual.ensures.1 in
-    let same : c.in_err-row.field-0.0 ≡ Denied = grind arith in
-    rw (p.1, p.2, same) (access_unmapped _ _ _ _ (sym c.is_open.ensures ∙ c.if-not-is_open.false) (sym c.is_user.ensures ∙ c.if-not-is_user.false) c.requires.sound_words _ c.containing_address-page.ensures _ c.translate.ensures (grind arith))
+pub returns-in_default : goal.returns-in_default
+returns-in_default c = access_unmapped _ _ _ _ (sym c.is_open.ensures ∙ c.if-not-is_open.false) (sym c.is_user.ensures ∙ c.if-not-is_user.false) c.requires.sound_words _ c.containing_address-page.ensures _ c.translate.ensures c.in_default.is
 
 pub returns-then-not-is_allowed : goal.returns-then-not-is_allowed
-returns-then-not-is_allowed c = access_disallowed _ _ _ _ (sym c.is_open.ensures ∙ c.if-not-is_open.false) (sym c.is_user.ensures ∙ c.if-not-is_user.false) c.requires.sound_words _ c.containing_address-page.ensures _ c.translate.ensures c.in_ok-row.row (grind arith) _ c.is_allowed.ensures c.if-not-is_allowed.true
+returns-then-not-is_allowed c = access_disallowed _ _ _ _ (sym c.is_open.ensures ∙ c.if-not-is_open.false) (sym c.is_user.ensures ∙ c.if-not-is_user.false) c.requires.sound_words _ c.containing_address-page.ensures _ c.translate.ensures _ c.in-Some.is _ c.is_allowed.ensures c.if-not-is_allowed.true
 
 pub address_at-requires : goal.address_at-requires
 address_at-requires c = let inside = c.page_offset.ensures in omega arith
 
 pub returns : goal.returns
-returns c = access_allowed _ _ _ _ (sym c.is_open.ensures ∙ c.if-not-is_open.false) (sym c.is_user.ensures ∙ c.if-not-is_user.false) c.requires.sound_words _ c.containing_address-page.ensures _ c.translate.ensures c.in_ok-row.row (grind arith) _ c.is_allowed.ensures c.if-not-is_allowed.false _ c.page_offset.ensures _ c.address_at.ensures
+returns c = access_allowed _ _ _ _ (sym c.is_open.ensures ∙ c.if-not-is_open.false) (sym c.is_user.ensures ∙ c.if-not-is_user.false) c.requires.sound_words _ c.containing_address-page.ensures _ c.translate.ensures _ c.in-Some.is _ c.is_allowed.ensures c.if-not-is_allowed.false _ c.page_offset.ensures _ c.address_at.ensures

@@ -1,10 +1,5 @@
 -- `protectable`: the refusals of protect, in their order.
-use Rattle.std.proofs.lemmas.Result.{err_from_is_err_and}
-use native.Mathlib.Omega.{arith}
-use mathlib.Core.Path.{◌≡◌, sym, ◌∙◌}
-use Rattle.std.specs.Prelude.{ℕ, Result, Err, Some, None}
-use Rattle.answers.specs.declared.Refusal.{Refusal}
-use Rattle.answers.specs.declared.Refusal.TheVariants.{NoRegion}
+use mathlib.Core.Path.{sym, ◌∙◌}
 use Rattle.lookup.specs.FirstOfLaws.{open_small}
 use Rattle.protect.specs.ProtectCallLaws.{good_by_test, bad_by_test, protect_closed, protect_address, protect_flags, protect_none, protect_shared, protect_some}
 use borrow.Author.Rules.{rules}
@@ -30,12 +25,10 @@ region_for-requires c =
     let from = c.args in
     let small = open_small from.words.now from.process (sym c.is_open.ensures ∙ c.if-not-is_open.false) in record { words_len = search rules; process_bound = search rules }
 
-pub returns-in_err-slot : goal.returns-in_err-slot
-returns-in_err-slot c =
+pub returns-in_default : goal.returns-in_default
+returns-in_default c =
     let from = c.args in
-    let p = err_from_is_err_and c.from_residual.result c.from_residual.ensures.1 in
-    let same : ◌≡◌ {A = Result ℕ Refusal} (Err c.in_err-slot.field-0.0) (Err NoRegion) = grind arith in
-    rw (p.1, p.2) (same ∙ protect_none from.words.now from.process from.addr.0 from.flags (sym c.is_open.ensures ∙ c.if-not-is_open.false) (sym c.is_user.ensures ∙ c.if-not-is_user.false) (good_by_test _ _ c.from_bits.ensures c.if-is_none.ensures) (let none : c.region_for.result ≡ None = grind arith in sym none ∙ c.region_for.ensures))
+    protect_none from.words.now from.process from.addr.0 from.flags (sym c.is_open.ensures ∙ c.if-not-is_open.false) (sym c.is_user.ensures ∙ c.if-not-is_user.false) (good_by_test _ _ c.from_bits.ensures c.if-is_none.ensures) (sym c.in_default.is ∙ c.region_for.ensures)
 
 pub region_in-region-requires : goal.region_in-region-requires
 region_in-region-requires c =
@@ -45,9 +38,9 @@ region_in-region-requires c =
 pub returns-then-region-eq-SHARED : goal.returns-then-region-eq-SHARED
 returns-then-region-eq-SHARED c =
     let from = c.args in
-    protect_shared from.words.now from.process from.addr.0 from.flags (sym c.is_open.ensures ∙ c.if-not-is_open.false) (sym c.is_user.ensures ∙ c.if-not-is_user.false) (good_by_test _ _ c.from_bits.ensures c.if-is_none.ensures) _ (let some : c.region_for.result ≡ Some c.in_ok-slot.slot = grind arith in sym some ∙ c.region_for.ensures) _ c.region_in-region.ensures c.if-region-eq-SHARED.true
+    protect_shared from.words.now from.process from.addr.0 from.flags (sym c.is_open.ensures ∙ c.if-not-is_open.false) (sym c.is_user.ensures ∙ c.if-not-is_user.false) (good_by_test _ _ c.from_bits.ensures c.if-is_none.ensures) _ (sym c.in-Some.is ∙ c.region_for.ensures) _ c.region_in-region.ensures c.if-region-eq-SHARED.true
 
 pub returns : goal.returns
 returns c =
     let from = c.args in
-    protect_some from.words.now from.process from.addr.0 from.flags (sym c.is_open.ensures ∙ c.if-not-is_open.false) (sym c.is_user.ensures ∙ c.if-not-is_user.false) (good_by_test _ _ c.from_bits.ensures c.if-is_none.ensures) _ (let some : c.region_for.result ≡ Some c.in_ok-slot.slot = grind arith in sym some ∙ c.region_for.ensures) _ c.region_in-region.ensures c.if-region-eq-SHARED.false
+    protect_some from.words.now from.process from.addr.0 from.flags (sym c.is_open.ensures ∙ c.if-not-is_open.false) (sym c.is_user.ensures ∙ c.if-not-is_user.false) (good_by_test _ _ c.from_bits.ensures c.if-is_none.ensures) _ (sym c.in-Some.is ∙ c.region_for.ensures) _ c.region_in-region.ensures c.if-region-eq-SHARED.false

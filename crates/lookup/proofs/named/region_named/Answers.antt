@@ -1,5 +1,6 @@
 -- `region_named`: one law for each test that decides.
 use mathlib.Core.Path.{sym, ◌∙◌}
+use Rattle.std.specs.Prelude.{Some, None}
 use Rattle.lookup.specs.FirstOfLaws.{open_small}
 use Rattle.lookup.specs.NamedLaws.{region_closed, region_address, region_or}
 use borrow.Author.Rules.{rules}
@@ -14,5 +15,8 @@ returns-then-not-is_user c = region_address _ _ _ (sym c.is_open.ensures ∙ c.i
 pub region_for-requires : goal.region_for-requires
 region_for-requires c = let small = open_small _ _ (sym c.is_open.ensures ∙ c.if-not-is_open.false) in record { words_len = search rules; process_bound = search rules }
 
+pub returns-in_default : goal.returns-in_default
+returns-in_default c = region_or _ _ _ (sym c.is_open.ensures ∙ c.if-not-is_open.false) (sym c.is_user.ensures ∙ c.if-not-is_user.false) None (sym c.in_default.is ∙ c.region_for.ensures)
+
 pub returns : goal.returns
-returns c = c.ok_or.ensures.value ∙ region_or _ _ _ (sym c.is_open.ensures ∙ c.if-not-is_open.false) (sym c.is_user.ensures ∙ c.if-not-is_user.false) _ c.region_for.ensures
+returns c = region_or _ _ _ (sym c.is_open.ensures ∙ c.if-not-is_open.false) (sym c.is_user.ensures ∙ c.if-not-is_user.false) (Some _) (sym c.in-Some.is ∙ c.region_for.ensures)
