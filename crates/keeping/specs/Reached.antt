@@ -10,7 +10,7 @@ use Rattle.model.specs.EmptyLaws.{start_sound}
 use Rattle.keeping.specs.CallsKept.{run_kept}
 
 -- RULES D3, from an empty machine, after any sequence of calls, refused ones included: s is any words read as a machine, any
--- frames and any file bytes, sound or not. Once start has answered Yes on it, R1 to R6 hold after every list of calls, the empty one too.
+-- frames and any file bytes, sound or not. Once start has answered Ok on it, R1 to R6 hold after every list of calls, the empty one too.
 pub reached : (s : State) (files : List File) → (calls.start s files).answer ≡ Ok tt → (l : List Call) → Sound (run l (calls.start s files).state)
 reached s files started l = run_kept l (calls.start s files).state (start_sound s files started)
 

@@ -1,7 +1,7 @@
 -- The segment table as lent rows (RULES J8, X8): what the calls on them answer and leave, and the steps that their loops go by.
-use Rattle.std.specs.Prelude.{Bool, true, false, not, ◌&&◌, cond, List, ◌++◌, ℕ, zero, suc, ◌+◌, ◌-◌, ltb, leb, eqb, length, take, drop, get_or, set, Option}
+use Rattle.std.specs.Prelude.{Bool, true, false, not, ◌&&◌, cond, List, ◌++◌, ℕ, zero, suc, ◌+◌, ◌-◌, ltb, leb, eqb, length, take, drop, get_or, set, Option, Some, None}
 use Rattle.segment.specs.declared.Segment.{Segment}
-use Rattle.segment.specs.Form.{beforeb}
+use Rattle.segment.specs.Form.{sameb, beforeb}
 use Rattle.segments.specs.Table.{insert, removed_at, place_of, no_segment}
 use Rattle.segment_records.specs.declared.by_value.Insertion.{Insertion}
 
@@ -51,3 +51,14 @@ move_down (suc k) i t = move_down k (i + 1) (set t i (get_or t (i + 1) no_segmen
 
 abbrev pub rows_of : ℕ → ℕ → ℕ
 rows_of len n = cond (ltb n len) n len
+
+abbrev pub place_with : ℕ → ℕ → Segment → Segment → ℕ
+place_with at i x s = cond (sameb x s) i at
+
+-- the first k rows from the last on: the place that is met last is the first of equals
+unfoldable pub look_down : ℕ → ℕ → Segment → List Segment → ℕ
+look_down zero at s t = at
+look_down (suc k) at s t = look_down k (place_with at k (get_or t k no_segment) s) s t
+
+abbrev pub found_at : ℕ → ℕ → Option ℕ
+found_at at n = cond (ltb at n) (Some at) None

@@ -1,7 +1,7 @@
 -- Laws of `Records`: each step as the code takes it, and what the loops leave is the by-value table's.
-use Rattle.std.specs.Prelude.{◌≡◌, Bool, leb, take, set, Some, None}
+use Rattle.std.specs.Prelude.{◌≡◌, Bool, leb, take, set, Option, Some, None}
 use Rattle.std.proofs.Math.Path.{refl, ap, sym}
-use Rattle.std.proofs.Common.{◌∙◌, zero-add, le_of_suc-le-suc, not-suc-le-zero, add-one, length-append, length-drop, take-append-drop, take_all, take-take, drop-drop, get_or-append-add, get_or-take}
+use Rattle.std.proofs.Common.{◌∙◌, zero-add, le_of_suc-le-suc, not-suc-le-zero, add-one, length-append, length-drop, take-append-drop, take-suc, take_all, take-take, drop-drop, get_or-append-add, get_or-take}
 use Rattle.std.proofs.Math.Bool.{true, false, cond}
 use mathlib.Core.List.{[], List, ◌∷◌, ◌++◌, append_assoc}
 use Prim.Native.Nat.{ℕ, zero, suc, ◌+◌, ◌-◌, ◌≤◌, ◌<◌}
@@ -17,7 +17,7 @@ use Rattle.segment.specs.declared.Segment.{Segment}
 use Rattle.segment.specs.Form.{sameb, beforeb}
 use Rattle.segments.specs.Table.{insert, removed_at, place_of, no_segment}
 use Rattle.segment_records.specs.declared.by_value.Insertion.{Insertion}
-use Rattle.segment_records.specs.Records.{found_in, inserted, removable, removed, turns_of, carrying_of, stays_of, carried_on, carry_over, end_of, move_down, rows_of}
+use Rattle.segment_records.specs.Records.{found_in, inserted, removable, removed, turns_of, carrying_of, stays_of, carried_on, carry_over, end_of, move_down, rows_of, place_with, look_down, found_at}
 
 -- ---- the steps
 
@@ -67,6 +67,13 @@ module _ (c : Insertion) (i n : ℕ) (x : Segment) where
 
     pub carried_put : r ≡ false → record { row = c.carry; carry = x; placed = true } ≡ carried_on c i n x
     carried_put e = rw (sym said, e)
+
+module _ (at n : ℕ) where
+  pub found_some : at < n → Some at ≡ found_at at n
+  found_some h = rw (lt-ltb at n h)
+
+  pub found_none : n ≤ at → None ≡ found_at at n
+  found_none h = rw (le-ltb at n h)
 
 -- ---- an insertion over rows
 
@@ -197,6 +204,61 @@ module _ (n at : ℕ) (t : List Segment) where
       by : (b : Bool) → removable (length t) n at ≡ b → at ≤ i → i < cond b (n - 1) at → i + 1 < length t
       by true e g h = let r = removable_inside (length t) n at e in let l = r.1 in omega arith
       by false e g h = omega arith
+
+-- ---- a search over rows, from the last on
+
+-- where a place is, and `d` where there is none
+abbrev or_else : Option ℕ → ℕ → ℕ
+or_else (Some i) d = i
+or_else None d = d
+
+module _ (s : Segment) where
+  -- one row more at the end
+  place_more : (t : List Segment) (x : Segment) (i d : ℕ) → or_else (place_of (t ++ (x ∷ [])) s i) d ≡ or_else (place_of t s i) (cond (sameb x s) (i + length t) d)
+  unfolding place_of
+  place_more [] x i d = by (sameb x s)
+    where
+      by : (b : Bool) → or_else (cond b (Some i) None) d ≡ cond b (i + 0) d
+      by true = omega arith
+      by false = refl
+  place_more (y ∷ t) x i d = by (sameb y s) (place_more t x (i + 1) d ∙ ap (λ (k : ℕ). or_else (place_of t s (i + 1)) (cond (sameb x s) k d)) (let e : i + 1 + length t ≡ i + suc (length t) = omega arith in e))
+    where
+      by : (b : Bool) → or_else (place_of (t ++ (x ∷ [])) s (i + 1)) d ≡ or_else (place_of t s (i + 1)) (cond (sameb x s) (i + suc (length t)) d)
+          → or_else (cond b (Some i) (place_of (t ++ (x ∷ [])) s (i + 1))) d ≡ or_else (cond b (Some i) (place_of t s (i + 1))) (cond (sameb x s) (i + suc (length t)) d)
+      by true later = refl
+      by false later = later
+
+  look_is : (k at : ℕ) (t : List Segment) → k ≤ length t → look_down k at s t ≡ or_else (place_of (take k t) s 0) at
+  unfolding look_down place_of
+  look_is zero at t h = refl
+  look_is (suc k) at t h =
+      look_is k (place_with at k x s) t (omega arith)
+      ∙ ap (λ (j : ℕ). or_else (place_of (take k t) s 0) (cond (sameb x s) j at)) (let e = length-take-le k t (omega arith) in let f : k ≡ 0 + length (take k t) = omega arith in f)
+      ∙ sym (place_more (take k t) x 0 at)
+      ∙ ap (λ u. or_else (place_of u s 0) at) (sym (take-suc t k no_segment h))
+    where
+      x : Segment
+      x = get_or t k no_segment
+
+  -- a place is one of the rows
+  place_inside : (t : List Segment) (i n : ℕ) → i + length t ≤ n → found_at (or_else (place_of t s i) n) n ≡ place_of t s i
+  unfolding place_of
+  place_inside [] i n h = sym (found_none n n (omega arith))
+  place_inside (x ∷ t) i n h = by (sameb x s) (place_inside t (i + 1) n (omega arith))
+    where
+      by : (b : Bool) → found_at (or_else (place_of t s (i + 1)) n) n ≡ place_of t s (i + 1) → found_at (or_else (cond b (Some i) (place_of t s (i + 1))) n) n ≡ cond b (Some i) (place_of t s (i + 1))
+      by true later = sym (found_some i n (omega arith))
+      by false later = later
+
+  pub find_all : (n : ℕ) (t : List Segment) → found_at (look_down (rows_of (length t) n) (rows_of (length t) n) s t) (rows_of (length t) n) ≡ found_in (take n t) s
+  find_all n t = by (ltb n (length t)) refl
+    where
+      some : (k : ℕ) → k ≤ length t → found_at (look_down k k s t) k ≡ found_in (take k t) s
+      some k h = ap (λ (j : ℕ). found_at j k) (look_is k k t h) ∙ place_inside (take k t) 0 k (let e = length-take-le k t h in omega arith)
+
+      by : (b : Bool) → ltb n (length t) ≡ b → found_at (look_down (cond b n (length t)) (cond b n (length t)) s t) (cond b n (length t)) ≡ found_in (take n t) s
+      by true e = some n (let h = ltb-true n (length t) e in omega arith)
+      by false e = some (length t) (omega arith) ∙ ap (λ u. found_in u s) (take_all (length t) t (omega arith) ∙ sym (take_all n t (ltb-false n (length t) e)))
 
 pub rows_most : (len n : ℕ) → rows_of len n ≤ len
 rows_most len n = by (ltb n len) refl
