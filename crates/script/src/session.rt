@@ -130,7 +130,13 @@ impl Session {
         if !self.ended {
             return Ok(self);
         }
-        let heard = self.ran(line, words, frames, files, starts);
+        let asked = call_text::held_call(line, self.held);
+        let taken = self.taken();
+        // What is said has room for a whole manager, which is much to carry on for a blank line or a comment.
+        if let Asked::Nothing = asked {
+            return taken.with_room(writer, &out[..]);
+        }
+        let heard = taken.ran(asked, line, words, frames, files, starts);
         let said = heard.said;
         let session = heard.after;
         session.put(
@@ -144,24 +150,45 @@ impl Session {
         )
     }
 
-    // Runs the line that is held.
+    // The line that is held has been taken.
+    fn taken(mut self) -> Session
+        ensures held_value { (result.held.len ≡ 0) × (result.output ≡ self.output) × (result.machine ≡ self.machine) }
+        ensures by_index { (input : ℕ) → Reads self input → Reads result input }
+    {
+        self.held = Held::new();
+        self.lines = std::num::wrapping_add_u64(self.lines, 1);
+        self
+    }
+
+    // Writes the answers if the longest answer does not fit behind them.
+    fn with_room<W: Write>(mut self, writer: &mut W, out: &[u8]) -> io::Result<Session>
+        requires at_in_bounds { self.output.at ≤ length out.now }
+        requires in_bounds { 4096 ≤ length out.now }
+        ensures at_in_bounds_2 { IfOk result (λ s. s.output.at ≤ length out.now) }
+        ensures held_value { IfOk result (λ s. (s.held ≡ self.held) × (s.machine ≡ self.machine)) }
+        ensures by_index { IfOk result (λ s. (input : ℕ) → Reads self input → Reads s input) }
+        ensures by_write { OnErr result (self.output.on ≡ true) }
+    {
+        let output = self.output;
+        self.output = output.with_room(writer, out)?;
+        Ok(self)
+    }
+
+    // Runs a line that was taken.
     fn ran(
         mut self,
+        asked: Asked,
         line: &[u8],
         words: &mut [u64],
         frames: &mut [u8],
         files: &mut [u8],
         starts: &mut [u64],
     ) -> Stepped<Session>
-        requires len_in_bounds { self.held.len ≤ length line.now }
-        requires lends { Lends self.machine (length frames.old) (length files.old) }
-        ensures len_value { (result.after.held.len ≡ 0) × (result.after.output ≡ self.output) }
+        requires { Lends self.machine (length frames.old) (length files.old) }
+        ensures held_value { (result.after.held ≡ self.held) × (result.after.output ≡ self.output) }
         ensures lends_2 { Lends result.after.machine (length frames.old) (length files.old) }
         ensures by_index { (input : ℕ) → Reads self input → Reads result.after input }
     {
-        let asked = call_text::held_call(line, self.held);
-        self.held = Held::new();
-        self.lines = std::num::wrapping_add_u64(self.lines, 1);
         if let Asked::Lone(call) = asked {
             return self.managed(call);
         }

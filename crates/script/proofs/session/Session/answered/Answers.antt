@@ -4,4 +4,4 @@ use Rattle.script.proofs.session.Session.answered.Goals as goal
 
 pub returns-clause-by_index : goal.returns-clause-by_index
 returns-clause-by_index g c =
-    IfOk-weaker c.put.result _ _ (λ s reads input x. reads input (c.ran-heard.ensures.by_index input x)) c.put.ensures.by_index
+    IfOk-weaker c.put.result _ _ (λ s reads input x. reads input (c.ran-heard.ensures.by_index input (c.taken-taken.ensures.by_index input x))) c.put.ensures.by_index
