@@ -53,6 +53,22 @@ module _ (base : ℕ) (s : List ℕ) where
   unfolding value_from
   value_more v i h = rw (drop-cons s i 0 h, add-one i)
 
+  -- what is left decides whether all are digits
+  digits_more : (i : ℕ) → i < length s → digitsb base (drop i s) ≡ (nat_lt (digit_of (slice_index s i)) base && digitsb base (drop (i + 1) s))
+  unfolding digitsb
+  digits_more i h = rw (drop-cons s i 0 h, add-one i)
+
+  pub digits_end : (i : ℕ) → length s ≤ i → digitsb base (drop i s) ≡ true
+  unfolding digitsb
+  digits_end i past = rw (drop_of_length-le s past)
+
+  module _ (i d : ℕ) (inside : i < length s) (is : d ≡ digit_of (slice_index s i)) (left : digitsb base (drop i s) ≡ digitsb base s) where
+    pub digits_left : d < base → digitsb base (drop (i + 1) s) ≡ digitsb base s
+    digits_left h = sym (digits_more i inside ∙ rw (← is, lt-ltb d base h) refl) ∙ left
+
+    pub spoiled : (length s == 0) ≡ false → base ≤ d → Err NoNumber ≡ digits_in base s
+    spoiled some h = no_digits some (sym left ∙ digits_more i inside ∙ rw (← is, le-ltb d base h) refl)
+
   module _ (some : (length s == 0) ≡ false) (digits : digitsb base s ≡ true) (v i : ℕ) (same : value_from base v (drop i s) ≡ value_from base 0 s) where
     pub all_read : length s ≤ i → v < 2 ^ 64 → Ok v ≡ digits_in base s
     unfolding digits_in fitting value_from

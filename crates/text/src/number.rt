@@ -1,5 +1,6 @@
 // Numbers out of words: decimal, or hexadecimal after `0x`, up to 2^64 - 1.
-ghost use Rattle.std.specs.Prelude.{◌≡◌, ◌+◌, ◌*◌, ◌<◌, ◌≤◌};
+ghost use Rattle.std.specs.Prelude.{◌≡◌, ◌+◌, ◌*◌, ◌<◌, ◌≤◌, cond, Err};
+ghost use Rattle.text.specs.declared.number.NumberError.TheVariants.{TooLarge, NoNumber};
 ghost use Rattle.text.specs.Numeral.{digit_of, digits_in, digitsb, fitting, number_in};
 
 // Why a word is no number.
@@ -25,14 +26,32 @@ fn read_digits(digits: &[u8], base: u64) -> Result<u64, NumberError>
     requires base_bound { base ≤ 16 }
     ensures { result ≡ digits_in base digits.now }
 {
-    if digits.is_empty() || !are_digits(digits, base) {
+    if digits.is_empty() {
         return Err(NumberError::NoNumber);
     }
     let mut value = 0;
     for &byte in digits {
-        value = with_digit(value, base, digit(byte))?;
+        let next = digit(byte);
+        if base <= next {
+            return Err(NumberError::NoNumber);
+        }
+        let Ok(more) = with_digit(value, base, next) else {
+            return too_large(digits, base);
+        };
+        value = more;
     }
     Ok(value)
+}
+
+// What is wrong with digits that do not fit: only here are they looked at a second time.
+fn too_large(digits: &[u8], base: u64) -> Result<u64, NumberError>
+    ensures { result ≡ cond (digitsb base digits.now) (Err TooLarge) (Err NoNumber) }
+{
+    if are_digits(digits, base) {
+        Err(NumberError::TooLarge)
+    } else {
+        Err(NumberError::NoNumber)
+    }
 }
 
 // Whether every byte is a digit of the base.
